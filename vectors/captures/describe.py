@@ -20,6 +20,7 @@ from segments import cut
 KNOWN = (1, 0x6B3343CF)
 UNKNOWN = "tshark reads it as version 1's; only its version and ids have a meaning (RFC 8999, section 5.1)"
 LATE = "tshark takes this second Retry, which clients discard (RFC 9000, section 17.2.5.2); it read the rest without it"
+ANEW = "tshark takes only the first ClientHello's secrets; it read this without the records up to the Retry"
 CUT = "tshark reads the record as one datagram; the kernel cuts it every {} bytes, and tshark read it cut"
 
 
@@ -46,25 +47,32 @@ def late_retries(capture, keys):
     return [record for record, kinds in kinds if kinds == ["Retry"]][1:]
 
 
-def readable(capture, keys, segment, path):
+def before_retry(capture, keys):
+    """The records of a capture up to its first Retry."""
+    kinds = ((record, [one["type"] for one in packets]) for record, packets in dissect.datagrams(capture, keys))
+    return list(range(1, 1 + next(record for record, kinds in kinds if kinds == ["Retry"])))
+
+
+def readable(capture, keys, scene, path):
     """A capture that tshark can read, and for each of its records the number of the record that it is of, and why it
     is there instead, if it is."""
-    if segment:
-        why = CUT.format(segment)
-        return path, [(record, why if is_cut else None) for record, is_cut in cut(capture, segment, path)]
-    late = late_retries(capture, keys)
-    if not late:
+    if scene.segment:
+        why = CUT.format(scene.segment)
+        return path, [(record, why if is_cut else None) for record, is_cut in cut(capture, scene.segment, path)]
+    left_out = before_retry(capture, keys) if scene.anew else late_retries(capture, keys)
+    if not left_out:
         return capture, None
-    subprocess.run(["editcap", capture, path, *map(str, late)], check=True)
+    subprocess.run(["editcap", capture, path, *map(str, left_out)], check=True)
     count = len(dissect.run("tshark", "-r", capture, "-T", "fields", "-e", "frame.number").split())
-    return path, [(record, None) for record in range(1, count + 1) if record not in late]
+    why = ANEW if scene.anew else None
+    return path, [(record, why) for record in range(1, count + 1) if record not in left_out]
 
 
-def rows_of(capture, keys, segment):
+def rows_of(capture, keys, scene):
     """A row for each datagram. A record of several has several."""
     rows = []
     with tempfile.TemporaryDirectory() as folder:
-        path, numbers = readable(capture, keys, segment, Path(folder) / "capture.pcap")
+        path, numbers = readable(capture, keys, scene, Path(folder) / "capture.pcap")
         for record, packets in dissect.datagrams(path, keys):
             packets, why = amended(packets)
             record, instead = numbers[record - 1] if numbers else (record, None)
@@ -72,7 +80,8 @@ def rows_of(capture, keys, segment):
             rows.append({"record": record, "packets": packets} | ({"differs": why} if why else {}))
     there = {row["record"] for row in rows}
     left_out = [one for one in dissect.datagrams(capture, keys) if one[0] not in there]
-    rows += [{"record": record, "packets": packets, "differs": LATE} for record, packets in left_out]
+    why = {} if scene.anew else {"differs": LATE}
+    rows += [{"record": record, "packets": packets} | why for record, packets in left_out]
     return sorted(rows, key=lambda row: row["record"])
 
 
@@ -80,7 +89,7 @@ def description(capture, keys, scene):
     """What there is to say of a capture: a line for each datagram."""
     head = {"capture": capture.name} | ({"keys": keys.name} if keys else {})
     head |= {"says": scene.says, "stacks": scene.stacks(), "by": version()}
-    lines = ",\n".join("  " + json.dumps(row) for row in rows_of(capture, keys, scene.segment))
+    lines = ",\n".join("  " + json.dumps(row) for row in rows_of(capture, keys, scene))
     return json.dumps(head, indent=1)[:-2] + ',\n "datagrams": [\n' + lines + "\n]}\n"
 
 

@@ -7,7 +7,8 @@ FOLDER gets NAME.pcap or NAME.pcapng, NAME.keys and NAME.json of each scene; of 
 scene run in a network of their own (unshare), so it needs no root, and nothing leaves that network. A scene whose
 programs aren't installed is skipped, with a word. Of Debian 12: wireshark-common, tshark, iproute2, ngtcp2-client,
 ngtcp2-server, caddy; of later ones openssl 3.5, curl, nginx and HAProxy with HTTP/3, python3-aioquic. AIOQUIC names the
-Python that has aioquic; without it that is python3.
+Python that has aioquic, python3 without it. QUINN names the program that cargo builds in stacks/quinn/peer with the
+crates of `scripts/lib/cargo-source DIR quinn rustls tokio`, quinn-peer without it.
 Exit status: 0 each scene was recorded or skipped, 1 one failed, 2 usage error.
 """
 
@@ -73,22 +74,26 @@ def play(scene: Scene):
     make_site()
     for name, text in scene.files.items():
         Path(name).write_text(text)
-    dumpcap = begin(["dumpcap", "-q", *scene.capture, "-f", "udp", "-w", "capture"], "dumpcap.log")
+    for name, size in scene.sizes.items():
+        Path("www", name).write_bytes(b"a" * size)
+    dumpcap = begin(["dumpcap", "-q", *scene.capture, "-f", scene.only, "-w", "capture"], "dumpcap.log")
     wait_for("File:", "dumpcap.log")
+    helpers = [begin(helper, "helpers.log") for helper in scene.helpers]
     # Both sides' secrets are in the client's log.
     server = begin(scene.server, "server.log", env=dict(os.environ, XDG_DATA_HOME=".", XDG_CONFIG_HOME="."))
     time.sleep(scene.patience)
     for client in scene.clients:
         program = begin(client, "client.log", env=dict(os.environ, SSLKEYLOGFILE="keys"))
         try:
-            status = program.wait(timeout=30)
+            status = program.wait(timeout=scene.limit)
         except subprocess.TimeoutExpired:
             program.kill()
             raise Failed(f"{client[0]} doesn't end") from None
         if (status == 0) != scene.succeeds:
             raise Failed(f"{client[0]} ended with status {status}: {Path('client.log').read_text(errors='replace')}")
         time.sleep(0.3)
-    end(server)
+    for program in (server, *helpers):
+        end(program)
     time.sleep(0.5)
     end(dumpcap)
 

@@ -6,6 +6,7 @@ from pathlib import Path
 
 PORT = "4433"
 PYTHON = os.environ.get("AIOQUIC", "python3")
+QUINN = os.environ.get("QUINN", "quinn-peer")
 PEER = str(Path(__file__).resolve().parent / "aioquic_peer.py")
 
 LOOPBACK = ("-P", "-i", "lo")
@@ -74,6 +75,16 @@ class Scene:
     patience: float = 0.7
     # The server's stack, if its command doesn't say so.
     behind: str = ""
+    # Whether the client sends another ClientHello after a Retry.
+    anew: bool = False
+    # Files that the server has beside `small` and `large`, by their sizes.
+    sizes: dict = field(default_factory=dict)
+    # Programs that run before the server and as long as it does.
+    helpers: tuple = ()
+    # Which datagrams are captured.
+    only: str = "udp"
+    # How long a client takes at most, in seconds.
+    limit: float = 30
 
     def stacks(self):
         """The client and the server, or the only one."""
@@ -82,7 +93,7 @@ class Scene:
 
     def programs(self):
         """What must be installed."""
-        stacks = {command[0] for command in (self.server, *self.clients)}
+        stacks = {command[0] for command in (self.server, *self.clients, *self.helpers)}
         return sorted(stacks | {"unshare", "ip", "dumpcap", "editcap", "tshark", "openssl"})
 
 
@@ -99,7 +110,7 @@ STACKS = {
 
 def name_of(command):
     """The stack of a command."""
-    return STACKS.get(command[0], "aioquic")
+    return "quinn" if command[0] == QUINN else STACKS.get(command[0], "aioquic")
 
 
 def suite(name):
@@ -187,6 +198,12 @@ AIOQUIC = {
         "first=1",
         server=["version=2"],
     ),
+    "aioquic-version-2-retry": aioquic(
+        "version 2 and a Retry, after which the client sends another ClientHello",
+        "version=2",
+        server=["version=2", "retry=1"],
+        anew=True,
+    ),
     "aioquic-0-rtt": aioquic("two connections, of which the second sends 0-RTT packets", "again=1"),
     "aioquic-key-update": aioquic("the client updates the keys", "update=1", "file=large"),
     "aioquic-ids": aioquic("both sides change their ids", "ids=1"),
@@ -194,6 +211,30 @@ AIOQUIC = {
     "aioquic-datagram": aioquic("a DATAGRAM frame (RFC 9221)", "datagram=1", server=["datagram=1"]),
     "aioquic-chacha20": aioquic("TLS_CHACHA20_POLY1305_SHA256 over IPv6", CHACHA20, address="::1"),
     "aioquic-close": aioquic("the client closes with an application's error and a reason", "code=42", "reason=enough"),
+}
+
+
+def quinn_server(*options):
+    return [QUINN, "serve", f"127.0.0.1:{PORT}", *options]
+
+
+def quinn_client(*options):
+    return [QUINN, "ask", f"127.0.0.1:{PORT}", *options]
+
+
+def quinn(says, *client, server=()):
+    """quinn's client and server with options."""
+    return Scene(says, quinn_server(*server), [quinn_client(*client)])
+
+
+QUINNS = {
+    "quinn-handshake": quinn("a file of 6 bytes by HTTP/0.9"),
+    "quinn-retry": quinn("the server validates the client's address by a Retry", server=["retry=1"]),
+    "quinn-key-update": quinn("the client updates the keys", "update=1", "file=large"),
+    "quinn-migration": quinn("the client's port changes", "move=1", "file=large"),
+    "quinn-datagram": quinn("a DATAGRAM frame (RFC 9221)", "datagram=1"),
+    "quinn-aioquic": Scene("quinn's client, and aioquic's server", aioquic_server(), [quinn_client()], patience=2),
+    "aioquic-quinn": Scene("aioquic's client, and quinn's server", quinn_server(), [aioquic_client()]),
 }
 
 
@@ -246,4 +287,4 @@ OTHERS = {
     "aioquic-haproxy": served("aioquic's client, and HAProxy", "haproxy", aioquic_client("alpn=h3")),
 }
 
-SCENES = {**NGTCP2, **AIOQUIC, **OTHERS}
+SCENES = {**NGTCP2, **AIOQUIC, **QUINNS, **OTHERS}

@@ -10,10 +10,10 @@ use crate::opened::{Opened, Reset, Retried, id_of, space_and_type};
 use crate::recovery::Outcome;
 use crate::search::{Found, Source};
 use crate::sink::{Ended, Event, Unopened};
-use crate::tls::Said;
+use crate::tls::{HelloAgain, Said};
 use quic_wire::datagram::{HeaderKind, PacketRef};
 use quic_wire::fields;
-use quic_wire::frame::{Ack, Close, Frame, Iter, Rules};
+use quic_wire::frame::{Ack, Close, Crypto, Frame, Iter, Rules};
 use quic_wire::ids::SpaceId;
 use quic_wire::permitted::permits;
 use quic_wire::transport_parameters::{ReadOptions, TransportParameters};
@@ -35,6 +35,7 @@ pub struct Connection {
     first_dcid: ConnectionId,
     retry_id: Option<ConnectionId>,
     random: Option<[u8; 32]>,
+    again: Option<Box<HelloAgain>>,
     suite: Option<u16>,
     server_name: Option<Vec<u8>>,
     protocol: Option<Vec<u8>>,
@@ -95,6 +96,7 @@ impl Connection {
             first_dcid,
             retry_id: None,
             random: None,
+            again: None,
             suite: None,
             server_name: None,
             protocol: None,
@@ -209,7 +211,8 @@ impl Connection {
     ) -> Option<Opened<'a>> {
         let (space, _) = space_and_type(packet.header().kind())?;
         let (expected, also) = (self.end(sender).expected(space), self.end(sender).also_expected(space));
-        let Connection { random, suite, version, keys, .. } = self;
+        let random = self.random_in(keylog).copied();
+        let Connection { suite, version, keys, .. } = self;
         let known = Known { random: random.as_ref(), suite: *suite, version: *version, keylog };
         let mut candidate = Candidate { packet: *packet, sender, expected };
         if let Some(also) = also {
@@ -229,7 +232,8 @@ impl Connection {
     ) -> Option<usize> {
         let end = self.end(datagram.sender);
         let numbers = [Some(end.expected(SpaceId::Data)), end.also_expected(SpaceId::Data)];
-        let Connection { random, suite, version, keys, .. } = self;
+        let random = self.random_in(keylog).copied();
+        let Connection { suite, version, keys, .. } = self;
         let known = Known { random: random.as_ref(), suite: *suite, version: *version, keylog };
         let mut numbers = numbers.into_iter().flatten();
         numbers.find_map(|expected| keys.segment_len(datagram, expected, &known, buffer))
@@ -246,7 +250,7 @@ impl Connection {
             _ if self.began_before => return Unopened::NoFirstId,
             _ => return Unopened::WrongTag,
         };
-        match self.random.map(|random| keylog.secret(&random, label)) {
+        match self.random_in(keylog).map(|random| keylog.secret(random, label)) {
             None => Unopened::NoClientHello,
             Some(None) => Unopened::NoSecret,
             _ if self.suite.is_some_and(|number| Suite::of(number).is_none()) => Unopened::UnknownSuite,
@@ -262,6 +266,7 @@ impl Connection {
     /// Takes a Retry.
     pub(crate) fn take_retry(&mut self, retried: &Retried, time: u64) {
         self.retry_id = Some(retried.id());
+        self.again = Some(Box::default());
         self.last = self.last.max(time);
         self.keys.retry(retried);
     }
@@ -391,6 +396,7 @@ impl Connection {
             }
             Frame::HandshakeDone => self.is_confirmed = true,
             Frame::Crypto(crypto) => {
+                self.take_again(opened, crypto);
                 let streams = &mut self.ends[sender as usize].crypto;
                 let said = streams.get_mut(space as usize).and_then(|one| one.take(crypto.offset, crypto.bytes));
                 if let Some(said) = said {
@@ -404,6 +410,22 @@ impl Connection {
             Frame::Close(close) => self.take_close(close, sent, sender),
             _ => {}
         }
+    }
+
+    fn take_again(&mut self, opened: &Opened<'_>, crypto: &Crypto<'_>) {
+        let is_of_client = opened.sender() == Side::Client && opened.space() == SpaceId::Initial;
+        let is_after = is_of_client && *opened.packet().dst_cid() != *self.first_dcid;
+        if let Some(again) = self.again.as_mut().filter(|_| is_after) {
+            again.take(crypto.offset, crypto.bytes);
+        }
+    }
+
+    // The random bytes for which a key log has secrets: those of the first ClientHello or, if it has none for them, of
+    // the one after a Retry.
+    fn random_in(&self, keylog: &KeyLog) -> Option<&[u8; 32]> {
+        let again = self.again.as_ref().and_then(|again| again.random());
+        let is_first = self.random.is_none_or(|first| keylog.knows(&first));
+        again.filter(|again| !is_first && keylog.knows(again)).or(self.random.as_ref())
     }
 
     // Takes the ACK that a side sent in a packet. Its delay counts as RFC 9002, section 5.3, says.

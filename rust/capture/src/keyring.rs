@@ -80,6 +80,8 @@ impl<'a> Offloaded<'a> {
 struct Phase {
     keys: PacketKeys,
     bit: bool,
+    /// How many keys came before these.
+    updates: u64,
     before: Option<Box<PacketKeys>>,
     after: Option<Box<PacketKeys>>,
 }
@@ -222,16 +224,17 @@ impl Keyring {
 
 impl Phase {
     fn new(keys: PacketKeys) -> Phase {
-        Phase { keys, bit: false, before: None, after: None }
+        Phase { keys, bit: false, updates: 0, before: None, after: None }
     }
 
     fn open<'a>(&mut self, candidate: Candidate<'a>, buffer: &'a mut Vec<u8>) -> Option<Opened<'a>> {
         let unmasked = Unmasked::new(&self.keys, candidate.packet, candidate.expected, buffer)?;
         if unmasked.key_phase() == self.bit {
-            return Opened::new(&self.keys, unmasked, candidate.sender, buffer);
+            let opened = Opened::new(&self.keys, unmasked, candidate.sender, buffer)?;
+            return Some(opened.with_updates(self.updates));
         }
         if let Some(before) = self.before.as_ref().filter(|keys| candidate.is_opened_by(keys, buffer)) {
-            return candidate.open(before, buffer);
+            return Some(candidate.open(before, buffer)?.with_updates(self.updates.saturating_sub(1)));
         }
         if self.after.is_none() {
             self.after = self.keys.updated().map(Box::new);
@@ -240,7 +243,8 @@ impl Phase {
         let before = std::mem::replace(&mut self.keys, *self.after.take()?);
         self.before = Some(Box::new(before));
         self.bit = !self.bit;
-        Some(opened)
+        self.updates += 1;
+        Some(opened.with_updates(self.updates))
     }
 }
 

@@ -43,6 +43,7 @@ pub struct Opened<'a> {
     number: Number,
     payload: &'a [u8],
     tag: u64,
+    updates: u64,
 }
 
 /// A packet whose header's protection was removed in a buffer. Its tag wasn't checked.
@@ -97,7 +98,12 @@ impl<'a> Opened<'a> {
         }
         let payload = sealed.get(..sealed.len().checked_sub(TAG_LEN)?)?;
         let tag = u64::from_be_bytes(*packet.data().last_chunk()?);
-        Some(Opened { packet, sender, space, packet_type, number, payload, tag })
+        Some(Opened { packet, sender, space, packet_type, number, payload, tag, updates: 0 })
+    }
+
+    /// The same with keys that its sender had updated so often.
+    pub(crate) fn with_updates(self, updates: u64) -> Opened<'a> {
+        Opened { updates, ..self }
     }
 
     /// The packet as it was sent.
@@ -143,6 +149,12 @@ impl<'a> Opened<'a> {
     /// Where its payload begins in the datagram, in bytes.
     pub fn payload_offset(&self) -> usize {
         self.packet.place().range().start + self.number.payload
+    }
+
+    /// How often its sender had updated the keys that open it (RFC 9001, section 6); 0 if it isn't a 1-RTT packet. If
+    /// the connection began before the capture, only updates after the side's first 1-RTT packet in it count.
+    pub fn updates(&self) -> u64 {
+        self.updates
     }
 
     /// The last eight bytes of its tag. Two packets of one number with the same are the same packet.

@@ -56,6 +56,28 @@ impl CryptoStream {
     }
 }
 
+/// The ClientHello after a Retry. It has to be the same as before (RFC 9000, section 17.2.5.3), but some clients begin TLS
+/// again.
+#[derive(Default)]
+pub(crate) struct HelloAgain {
+    crypto: CryptoStream,
+    random: Option<[u8; 32]>,
+}
+
+impl HelloAgain {
+    /// Takes CRYPTO data of an Initial packet, in any order.
+    pub(crate) fn take(&mut self, offset: u64, bytes: &[u8]) {
+        if let Some(Said::ClientHello { random, .. }) = self.crypto.take(offset, bytes) {
+            self.random = Some(random);
+        }
+    }
+
+    /// Its random bytes, once it is whole.
+    pub(crate) fn random(&self) -> Option<&[u8; 32]> {
+        self.random.as_ref()
+    }
+}
+
 fn message(data: &[u8]) -> Option<(u8, &[u8])> {
     let ([kind, a, b, c], body) = data.split_first_chunk()?;
     let len = u32::from_be_bytes([0, *a, *b, *c]) as usize;

@@ -11,8 +11,9 @@ use quic_wire::packet::VERSION_2;
 use quic_wire::{ConnectionId, Side};
 use quic_wire_capture::capture::Datagram;
 use quic_wire_capture::ciphers::Suite;
+use quic_wire_capture::connection::Connection;
 use quic_wire_capture::follow::Follower;
-use quic_wire_capture::sink::{Ended, Rest, Unopened};
+use quic_wire_capture::sink::{Ended, Event, Rest, Sink, Unopened};
 
 const PING: &[u8] = &[1];
 
@@ -66,6 +67,26 @@ fn retry() {
     assert_eq!((rows.opened(0), &rows.unopened[..]), (7, &[Unopened::Retry, Unopened::InvalidRetry][..]));
     assert_eq!(follower.counts().connections, 1);
     assert_eq!(follower.connections().next().unwrap().retry_id().unwrap()[..], *b"retried");
+}
+
+// Another ClientHello, of which the key log has the secrets; one that anyone has sent doesn't matter.
+#[test]
+fn another_hello_after_a_retry() {
+    let (mut made, other) = (Made::new(1), Made { salt: 1, ..Made::new(1) });
+    let [first, second] = [&made, &other].map(|made| crypto(0, &made.client_hello()));
+    let mut all = vec![made.send(Client, Initial, &first), made.retry(b"retried")];
+    let rest = |mut made: Made, all: &[Kept]| {
+        let mut all = all.to_vec();
+        all.push(made.send(Client, Initial, &second));
+        all.extend(made.handshake_of_server());
+        all.extend([made.send(Server, Short, PING), made.send(Client, Short, PING)]);
+        rows_of(&[&made], &all).1
+    };
+    let rows = rest(Made { salt: 1, ..made.clone() }, &all);
+    assert_eq!((rows.opened(0), &rows.unopened[..]), (7, &[Unopened::Retry][..]), "{:#?}", rows.rows);
+    all.push(made.send(Client, Initial, &first));
+    let rows = rest(made, &all);
+    assert_eq!((rows.opened(0), &rows.unopened[..]), (8, &[Unopened::Retry][..]), "{:#?}", rows.rows);
 }
 
 // A server may answer in version 2 (RFC 9369, section 4.1).
@@ -133,6 +154,23 @@ fn key_updates() {
         }
     }
     all_opened(&made, &all, 17);
+    let mut counts = Counts(Vec::new());
+    let mut follower = Follower::default();
+    follower.keylog.add(made.key_log().as_bytes());
+    all.iter().for_each(|kept| follower.take(&kept.datagram(), &mut counts));
+    assert_eq!(counts.0, [1, 1, 1, 1, 0, 2, 2, 2, 2, 3, 3, 3, 3]);
+}
+
+/// How often the keys of each 1-RTT packet had been updated.
+struct Counts(Vec<u64>);
+
+impl Sink for Counts {
+    fn opened(&mut self, _: &Connection, _: &Datagram<'_>, _: u64, event: &Event<'_>) {
+        match event {
+            Event::Packet(opened) if opened.kind() == Short => self.0.push(opened.updates()),
+            _ => {}
+        }
+    }
 }
 
 #[test]

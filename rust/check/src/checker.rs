@@ -106,8 +106,11 @@ impl Facts {
         finding.rule.needs.iter().copied().find(|need| match need {
             Need::PeerPackets if matches!(claim, Claim::Bytes(_)) && history.lacks_handshake() => true,
             Need::PeerPackets => !history.is_whole(!sender, spaces),
+            Need::OwnPackets if matches!(claim, Claim::Retry) && !history.half(sender).has_initial() => true,
             Need::OwnPackets => !history.is_whole(sender, spaces),
+            Need::OwnNumbers => !history.has_all(sender, spaces),
             Need::NoEarlyData => history.has_early,
+            Need::NoToken => history.has_token && connection.retry_id().is_none(),
             Need::Order => self.is_disordered,
             Need::Proof => !is_proven,
             Need::End => due.is_some_and(|due| due > connection.times().1) && !is_closed,
@@ -167,8 +170,19 @@ impl Checker {
 
     /// Takes the next datagram of the capture.
     pub fn take(&mut self, datagram: &Datagram<'_>, follower: &mut Follower) {
-        self.facts.take(datagram);
+        self.note(datagram);
         follower.take(datagram, self);
+    }
+
+    /// Notes the next datagram of the capture, for a sink that passes on to this one what a follower finds in it:
+    /// [`Checker::take`] does both.
+    pub fn note(&mut self, datagram: &Datagram<'_>) {
+        self.facts.take(datagram);
+    }
+
+    /// What is found in a connection so far, in the order of the records: all of it once the connection ended.
+    pub fn findings(&self, connection: usize) -> Vec<&Finding> {
+        self.groups.of(connection)
     }
 
     /// Ends the capture, and returns what was found in it.
@@ -286,7 +300,7 @@ impl Checker {
                 number.is_some_and(|number| ack.iter().any(|range| range.contains(&number)));
         }
         if held.permitted.is_ok() {
-            self.history(connection).take_frame(connection, opened, held.frame);
+            self.history(connection).take_frame(connection, datagram, opened, held.frame);
         }
     }
 
@@ -301,6 +315,7 @@ impl Checker {
                 Some(check(about, opened, &Faulty { error, offset: *offset, fault: fault.as_ref(), ty }))
             }
             (Check::Parameters(check), Event::Parameters { read: Ok(read), .. }) => Some(check(about, read)),
+            (Check::List(check), Event::Parameters { opened, list, read: Ok(_) }) => Some(check(about, opened, list)),
             (Check::Refusal(check), Event::Parameters { list, read: Err(refusal), .. }) => {
                 Some(check(about, list, refusal))
             }
@@ -359,6 +374,7 @@ impl Sink for Checker {
                 Check::Retry(check) => Some(check(about, packet)),
                 _ => None,
             });
+            self.history(connection).take_retry(packet);
         }
     }
 

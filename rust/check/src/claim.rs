@@ -7,6 +7,7 @@ use quic_wire::transport_parameters::TransportParameters;
 use quic_wire::{ConnectionId, Dir, Side, StreamId};
 use quic_wire_capture::connection::Connection;
 use std::collections::VecDeque;
+use std::net::SocketAddr;
 
 /// How far apart two records may be whose order is wrong, in nanoseconds: a capture takes what comes and what goes from
 /// two queues.
@@ -40,8 +41,16 @@ pub(crate) enum Claim {
     Answer(u64),
     /// It retired an id that its peer didn't issue.
     Retired(u64),
+    /// It issued an id, and none with the sequence number before.
+    Gap(u64),
+    /// It answered a challenge again.
+    AnswerAgain,
+    /// Its parameters say whether there was a Retry, whose record, or one that shows it, may come late.
+    Retry,
     /// The server sent so many bytes.
     Bytes(u64),
+    /// The server sent so many bytes to an address of the client.
+    BytesTo(SocketAddr, u64),
     /// It sent a long header to an id that its peer didn't choose and didn't issue.
     Destination(ConnectionId),
 }
@@ -52,8 +61,10 @@ impl Claim {
         match self {
             Claim::Unsent { space, .. } | Claim::Number { space, .. } => std::slice::from_ref(space),
             // A datagram at the end of a space leaves no gap; those of the other spaces show whether any are missing.
-            Claim::Bytes(_) => ALL,
+            Claim::Bytes(_) | Claim::BytesTo(..) => ALL,
             Claim::Destination(_) => ALL,
+            // Keys of Initial packets follow from the id of a Retry.
+            Claim::Retry => &[SpaceId::Initial],
             _ => DATA,
         }
     }
@@ -62,7 +73,14 @@ impl Claim {
     fn is_timed(&self) -> bool {
         !matches!(
             self,
-            Claim::Unsent { .. } | Claim::Unused(_) | Claim::Answer(_) | Claim::Retired(_) | Claim::Destination(_)
+            Claim::Unsent { .. }
+                | Claim::Unused(_)
+                | Claim::Answer(_)
+                | Claim::AnswerAgain
+                | Claim::Retry
+                | Claim::Retired(_)
+                | Claim::Gap(_)
+                | Claim::Destination(_)
         )
     }
 
@@ -81,13 +99,21 @@ impl Claim {
             Claim::Streams(id) => limits.is_some_and(|limits| id.index() >= count_limit(limits, history, sender, id)),
             // An ACK refutes it.
             Claim::Number { .. } => true,
+            // A challenge with the same data that isn't in the capture would explain it.
+            Claim::AnswerAgain => true,
+            // A token that comes late makes the rule silent.
+            Claim::Retry => true,
+            Claim::Gap(sequence) => !is_given(connection, history, sender, sequence - 1),
             Claim::Ids => limits.is_some_and(|limits| {
                 active_ids(connection, history, sender, None) > limits.active_connection_id_limit.into_inner()
             }),
             Claim::Unused(id) => peer.used[crate::history::type_of(id)].is_none_or(|used| used < id.index()),
-            Claim::Answer(data) => !peer.challenges.contains(&data),
+            Claim::Answer(data) => !peer.challenges.contains_key(&data),
             Claim::Retired(sequence) => last_id(connection, !sender).is_none_or(|last| last < sequence),
             Claim::Bytes(bytes) => bytes > peer.bytes.saturating_mul(3),
+            Claim::BytesTo(address, bytes) => {
+                history.peer(address).is_some_and(|peer| !peer.is_valid && bytes > peer.received.saturating_mul(3))
+            }
             Claim::Destination(id) => !peer.sources.contains(&id) && !is_issued(connection, !sender, &id),
         }
     }
@@ -126,10 +152,22 @@ pub(crate) fn distance(connection: &Connection, sender: Side, space: SpaceId, nu
 pub(crate) fn active_ids(connection: &Connection, history: &History, sender: Side, new: Option<(u64, u64)>) -> u64 {
     let own = history.half(sender);
     let prior = own.prior.max(new.map_or(0, |(_, prior)| prior));
-    let is_active = |sequence: u64| sequence >= prior && !own.retired.contains(&sequence);
+    let is_active = |sequence: u64| sequence >= prior && !own.retired.contains_key(&sequence);
     let known = connection.end(sender).ids().map(|(sequence, ..)| sequence);
     let others = known.filter(|sequence| new.is_none_or(|(new, _)| new != *sequence));
     others.chain(new.map(|(sequence, _)| sequence)).filter(|sequence| is_active(*sequence)).count() as u64
+}
+
+/// Whether a side gave an id with a sequence number, or may have done so with a preferred_address (RFC 9000, section
+/// 5.1.1).
+pub(crate) fn is_given(connection: &Connection, history: &History, side: Side, sequence: u64) -> bool {
+    let parameters = connection.end(side).parameters();
+    let may_prefer = side == Side::Server && parameters.is_none_or(|list| list.preferred_address.is_some());
+    match sequence {
+        0 => true,
+        1 if may_prefer => true,
+        _ => history.half(side).issued.contains(sequence),
+    }
 }
 
 /// The greatest sequence number of a side's ids.

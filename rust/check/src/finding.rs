@@ -4,7 +4,7 @@ use crate::rule::{Need, Rule, Section};
 use crate::vantage::Vantage;
 use quic_wire::Side;
 use quic_wire::datagram::HeaderKind;
-use std::collections::{BTreeMap, HashMap};
+use std::collections::BTreeMap;
 
 /// How many groups of findings are kept. Further ones are only counted.
 pub const MOST_GROUPS: usize = 1 << 14;
@@ -55,12 +55,13 @@ pub struct Report {
     pub taken: BTreeMap<Vantage, u64>,
 }
 
-type Key = (&'static str, Section, usize, Side);
+// The connection, the rule's name, the section and the sender, in an order in which those of a connection are together.
+type Key = (usize, &'static str, Section, usize);
 
 /// Findings that come in.
 #[derive(Default)]
 pub(crate) struct Groups {
-    by_key: HashMap<Key, Finding>,
+    by_key: BTreeMap<Key, Finding>,
     unchecked: BTreeMap<(&'static str, Need), u64>,
     further: u64,
     taken: BTreeMap<Vantage, u64>,
@@ -73,7 +74,7 @@ impl Groups {
     }
 
     pub(crate) fn add(&mut self, finding: Finding) {
-        let key = (finding.rule.name, finding.section, finding.connection, finding.sender);
+        let key = (finding.connection, finding.rule.name, finding.section, finding.sender as usize);
         let is_full = self.by_key.len() >= MOST_GROUPS;
         match self.by_key.get_mut(&key) {
             Some(first) => first.join(finding),
@@ -88,16 +89,29 @@ impl Groups {
         *self.unchecked.entry((rule.name, need)).or_default() += 1;
     }
 
+    /// Those of a connection, in the order of the records.
+    pub(crate) fn of(&self, connection: usize) -> Vec<&Finding> {
+        let from = |connection| (connection, "", Section { rfc: 0, number: "" }, 0);
+        let those = self.by_key.range(from(connection)..from(connection.saturating_add(1)));
+        let mut those: Vec<_> = those.map(|(_, finding)| finding).collect();
+        those.sort_by_key(|one| one.order());
+        those
+    }
+
     /// All of them, in the order of the records; nothing is left.
     pub(crate) fn take(&mut self) -> Report {
         let Groups { by_key, unchecked, further, taken } = std::mem::take(self);
         let mut findings: Vec<_> = by_key.into_values().collect();
-        findings.sort_by_key(|one| (one.record, one.offset, one.payload_offset, one.rule.name, one.section));
+        findings.sort_by_key(Finding::order);
         Report { findings, unchecked, further, taken }
     }
 }
 
 impl Finding {
+    fn order(&self) -> (u64, usize, Option<usize>, &'static str, Section) {
+        (self.record, self.offset, self.payload_offset, self.rule.name, self.section)
+    }
+
     // What is decided late may be earlier in the file.
     fn join(&mut self, other: Finding) {
         let (count, last) = (self.count + other.count, self.last_record.max(other.last_record));

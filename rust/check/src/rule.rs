@@ -81,6 +81,8 @@ pub enum Need {
     PeerPackets,
     /// All packets of the packet's sender that its receiver acknowledged, opened, in the number space.
     OwnPackets,
+    /// All packet numbers of the packet's sender, without gaps, in the number space.
+    OwnNumbers,
     /// A packet that shows what had been sent by then.
     Proof,
     /// That no extension was offered that isn't known here.
@@ -113,6 +115,7 @@ impl Need {
             Need::PeerParameters => "the peer's transport parameters weren't seen",
             Need::PeerPackets => "packets of the peer aren't in the capture or weren't opened",
             Need::OwnPackets => "packets of the sender aren't in the capture or weren't opened",
+            Need::OwnNumbers => "packet numbers of the sender aren't in the capture",
             Need::Proof => "no later packet shows what had been sent",
             Need::NoExtension => "an extension that isn't known here may permit it",
             Need::NoToken => "a token of an earlier connection may permit it",
@@ -134,6 +137,7 @@ impl Need {
             Need::PeerParameters => "peer-parameters",
             Need::PeerPackets => "peer-packets",
             Need::OwnPackets => "own-packets",
+            Need::OwnNumbers => "own-numbers",
             Need::Proof => "proof",
             Need::NoExtension => "no-extension",
             Need::NoToken => "no-token",
@@ -214,6 +218,8 @@ pub(crate) enum Check {
     Empty(fn(&About<'_>, &Opened<'_>) -> Checked),
     /// Transport parameters.
     Parameters(fn(&About<'_>, &TransportParameters) -> Checked),
+    /// Their list, if it isn't rejected.
+    List(fn(&About<'_>, &Opened<'_>, &[u8]) -> Checked),
     /// A list of them that is rejected.
     Refusal(fn(&About<'_>, &[u8], &Refusal) -> Checked),
     /// The first packet of a datagram.

@@ -6,8 +6,9 @@ mod made;
 #[path = "common/talk.rs"]
 mod talk;
 
-use made::{Client, Initial, Server, Short};
-use quic_wire::Side;
+use made::{Client, Initial, Server, Short, frame};
+use quic_wire::frame::{Frame, NewConnectionId};
+use quic_wire::{ConnectionId, Side};
 use quic_wire_check::rule::Need;
 use talk::{PING, Talk, padded};
 
@@ -44,4 +45,80 @@ fn packets_of_the_other_direction() {
     let mut talk = amplified(Server, PING);
     talk.all.remove(3);
     talk.is_silent("amplification", Need::OwnPackets);
+}
+
+fn new_id(sequence: u64, retire_prior_to: u64, id: &[u8]) -> Vec<u8> {
+    let (id, reset_token) = (ConnectionId::new(id), [sequence as u8; 16].into());
+    frame(&Frame::NewConnectionId(NewConnectionId { sequence, retire_prior_to, id, reset_token }))
+}
+
+// RFC 9000, section 5.1.1: a packet that was lost may have had the id before.
+#[test]
+fn ids_that_are_missing() {
+    let mut talk = Talk::open();
+    talk.short(Server, PING).short(Server, &new_id(2, 0, b"second")).later();
+    let index = talk.next() - 4;
+    talk.finds("id-sequence", "RFC 9000, section 5.1.1", index);
+    // It was acknowledged.
+    let mut acknowledged = talk.all.clone();
+    acknowledged.remove(index - 1);
+    let report = talk::report_of(talk.made.key_log().as_bytes(), &acknowledged);
+    assert!(report.findings.is_empty() && report.unchecked.contains_key(&("id-sequence", Need::OwnPackets)));
+    // It wasn't, and none of those after it is in the capture.
+    let mut talk = Talk::open();
+    talk.short(Server, PING);
+    talk.all.pop();
+    talk.short(Server, &new_id(2, 0, b"second")).short(Client, PING).is_silent("id-sequence", Need::OwnPackets);
+    // A later one was acknowledged, so it counts as lost.
+    let last = talk.made.numbers[1][2] - 1;
+    talk.short(Client, &talk::ack(last as u8)).is_silent("id-sequence", Need::OwnNumbers);
+}
+
+// Section 8.2.2: a challenge that isn't in the capture may have had the same data.
+#[test]
+fn challenges_that_are_missing() {
+    let (challenge, answer) = (padded(b"\x1a12345678", 1200), padded(b"\x1b12345678", 1200));
+    let mut talk = Talk::open();
+    talk.short(Server, &challenge).short(Client, &answer).short(Server, PING).short(Client, &answer).later();
+    let index = Talk::open().next();
+    talk.finds("response-twice", "RFC 9000, section 8.2.2", index + 3);
+    talk.all.remove(index + 2);
+    talk.is_silent("response-twice", Need::PeerPackets);
+}
+
+// Records of both directions come from two queues: an answer may be in the file before its challenge, and the packets
+// around a Retry after those that show it.
+#[test]
+fn records_that_are_late() {
+    let mut talk = Talk::open();
+    talk.made.addresses[0].set_port(5);
+    talk.short(Client, &padded(PING, 400)).short(Server, &padded(b"\x1a12345678", 1178));
+    talk.short(Client, &padded(b"\x1b12345678", 1200));
+    let last = talk.next() - 1;
+    talk.all.swap(last - 1, last);
+    for _ in 0..8 {
+        talk.short(Server, &padded(PING, 1178));
+    }
+    talk.later().finds_nothing();
+
+    let mut talk = Talk::new();
+    let hello = talk.client_hello();
+    talk.send(Client, Initial, &hello);
+    let retry = talk.made.retry(b"retried");
+    talk.all.push(retry);
+    talk.parameters[Server as usize].retry_src_cid = Some(ConnectionId::new(b"retried"));
+    talk.send(Client, Initial, &hello).server_flight();
+    talk.all[1..].rotate_left(2);
+    talk.client_flight().confirm().later().is_silent("retry-source-id", Need::OwnPackets);
+}
+
+// Section 5.1.2: without the packet that acknowledges it, nothing shows that a Retire Prior To came.
+#[test]
+fn acknowledgments_that_are_missing() {
+    let mut talk = Talk::open();
+    talk.short(Server, &new_id(1, 1, b"first")).short(Client, &talk::all_to(2)).short(Client, PING);
+    let index = Talk::open().next();
+    talk.finds("retire-prior", "RFC 9000, section 5.1.2", index + 2);
+    talk.all.remove(index + 1);
+    talk.finds_nothing();
 }

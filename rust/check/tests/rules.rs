@@ -390,7 +390,7 @@ fn final_size() {
     with(&[fin, &[0x0e, 0, 2, 1, 0x63]]).finds("final-size", "RFC 9000, section 4.5", index + 1);
     with(&[fin, &[4, 0, 0, 3]]).finds("final-size", "RFC 9000, section 4.5", index + 1);
     with(&[&[0x0a, 0, 3, 1, 2, 3], fin]).finds("final-size", "RFC 9000, section 4.5", index + 1);
-    with(&[fin, fin, &[4, 0, 0, 2], &[0x0e, 0, 1, 1, 0x62]]).finds_nothing();
+    with(&[fin, fin, &[0x0e, 0, 1, 1, 0x62], &[4, 0, 0, 2]]).finds_nothing();
 }
 
 // Sections 4.1 and 4.6: 1,000 bytes on all streams, 500 on each, four streams of each type.
@@ -438,9 +438,11 @@ fn ids() {
     with(&[&one, &one, &two]).finds_nothing();
     with(&[&one, &new_id(1, 0, b"other", 7)]).finds("id-changed", "RFC 9000, section 19.15", index + 1);
     with(&[&one, &new_id(1, 0, b"first", 8)]).finds("id-changed", "RFC 9000, section 19.15", index + 1);
-    with(&[&one, &new_id(2, 1, b"first", 7)]).finds("id-twice", "RFC 9000, section 19.15", index + 1);
+    with(&[&one, &new_id(2, 1, b"first", 8)]).finds("id-twice", "RFC 9000, section 19.15", index + 1);
     with(&[&one, &new_id(2, 0, b"second", 8)]).finds("id-count", "RFC 9000, section 5.1.1", index + 1);
-    with(&[&one, &two, &[0x19, 0]]).finds("retire-own", "RFC 9000, section 19.16", index + 2);
+    let mut talk = Talk::open();
+    talk.short(Server, &one).short(Server, &two).short(Server, &[0x19, 0]);
+    talk.finds("retire-own", "RFC 9000, section 19.16", index + 2);
     with(&[&[0x19, 5]]).finds("retire-unknown", "RFC 9000, section 19.16", index);
 
     let mut talk = Talk::new();

@@ -25,7 +25,7 @@ _quic_wire_words() {
                 capture)
                     echo '--json --color --keylog --qlog --connection --side --number --frame --rejected --lost --help'
                     ;;
-                check) echo '--json --sarif --color --keylog --at --only --allow --should --rules --help' ;;
+                check) echo '--json --sarif --color --keylog --qlog --at --only --allow --should --rules --help' ;;
                 *)
                     echo '--base64 --json --color --rfc --quinn --strict --cid-len --versions --grease --side --largest'
                     echo '--keylog --qlog --connection --number --frame --rejected --lost --at --only --allow --should'

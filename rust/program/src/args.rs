@@ -112,7 +112,7 @@ const OPTIONS: [Known; 26] = [
     known("--side", Some("client or server"), &["params", "capture"]),
     known("--largest", Some("the largest packet number that was received"), &["number"]),
     known("--keylog", Some("a key log file"), &["capture", "check"]),
-    known("--qlog", Some("a folder"), &["capture"]),
+    known("--qlog", Some("a folder"), &["capture", "check"]),
     known("--connection", Some("the number of a connection"), &["capture"]),
     known("--number", Some("a packet number, or a range of them"), &["capture"]),
     known("--frame", Some("the name of a frame"), &["capture"]),

@@ -2,9 +2,9 @@
 mod json;
 pub mod keys;
 pub mod object;
-mod qlog;
+pub mod qlog;
 pub mod reading;
-mod report;
+pub mod report;
 pub mod screen;
 mod source;
 mod text;

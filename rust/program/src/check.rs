@@ -2,10 +2,12 @@
 mod json;
 mod sarif;
 mod text;
+mod traces;
 
-use crate::args::{Checks, Place, nearest};
+use crate::args::{Checks, Filter, Place, nearest};
 use crate::capture::ended;
 use crate::capture::keys::KeyLogs;
+use crate::capture::qlog::stems;
 use crate::capture::reading::{Taker, read, read_each};
 use crate::capture::screen::{Queue, Screen};
 use crate::{FAILED, REFUSED, WRONG_CALL, say};
@@ -22,6 +24,7 @@ use std::ffi::OsStr;
 use std::process::ExitCode;
 use std::sync::Arc;
 use text::Text;
+use traces::Traces;
 
 /// What is found in a capture.
 struct Whole<'a> {
@@ -51,14 +54,14 @@ struct Check<'a> {
     name: &'a OsStr,
     begun: Option<u64>,
     checker: Checker,
+    traces: Option<Traces<'a>>,
     is_broken: bool,
 }
 
 impl Whole<'_> {
     // Why a rule may be broken.
     fn reason(&self, finding: &Finding) -> Option<&str> {
-        let allowed = self.allowed.iter().find(|(rule, _)| rule == finding.rule.name);
-        allowed.map(|(_, reason)| &reason[..])
+        reason(self.allowed, finding)
     }
 
     // How many rules are broken that bind so much, each once for a side of a connection, except those that may be.
@@ -71,6 +74,12 @@ impl Whole<'_> {
     fn allowed(&self) -> u64 {
         self.report.findings.iter().filter(|finding| self.reason(finding).is_some()).count() as u64
     }
+}
+
+// Why a rule may be broken, of those that may be.
+fn reason<'a>(allowed: &'a [(String, String)], finding: &Finding) -> Option<&'a str> {
+    let one = allowed.iter().find(|(rule, _)| rule == finding.rule.name);
+    one.map(|(_, reason)| &reason[..])
 }
 
 /// Checks captures.
@@ -95,10 +104,13 @@ pub fn run(args: &Checks) -> ExitCode {
         return ended(&queue, ExitCode::SUCCESS);
     }
     let (logs, are_opened) = KeyLogs::open(&args.keylogs);
+    let (filter, stems) = (Filter::default(), stems(&args.files));
     let results = read_each(&args.files, &queue, |file, place, screen| {
         let (form, allowed, vantage) = (form(args, place, &log, screen), &args.allowed[..], args.at.map(vantage));
         let (begun, checker, is_broken) = (None, Checker::new([]), false);
-        let mut check = Check { rules: &rules, allowed, vantage, form, name: file, begun, checker, is_broken };
+        let folder = args.qlog.as_deref();
+        let traces = folder.map(|folder| Traces::new(&filter, screen, folder, &stems[place], allowed));
+        let mut check = Check { rules: &rules, allowed, vantage, form, name: file, begun, checker, traces, is_broken };
         let read = read(file, &logs, &mut check, screen);
         if let Err(what) = &read {
             screen.say(format_args!("{}: {what}", file.to_string_lossy()));
@@ -151,8 +163,11 @@ fn chosen(args: &Checks) -> Result<Vec<&'static Rule>, String> {
 }
 
 impl Taker for Check<'_> {
-    fn begin(&mut self, _: &OsStr) {
+    fn begin(&mut self, file: &OsStr) {
         self.begun = None;
+        if let Some(traces) = &mut self.traces {
+            traces.begin(file);
+        }
         let checker = Checker::new(self.rules.iter().copied());
         self.checker = match self.vantage {
             Some(vantage) => checker.at(vantage),
@@ -162,11 +177,20 @@ impl Taker for Check<'_> {
 
     fn datagram(&mut self, datagram: &Datagram<'_>, follower: &mut Follower) {
         self.begun.get_or_insert(datagram.time);
-        self.checker.take(datagram, follower);
+        match &mut self.traces {
+            Some(traces) => traces.take(datagram, follower, &mut self.checker),
+            None => self.checker.take(datagram, follower),
+        }
     }
 
     fn end(&mut self, follower: &mut Follower, capture: &Capture) {
+        if let Some(traces) = &mut self.traces {
+            traces.finish(follower, &mut self.checker);
+        }
         let report = std::mem::take(&mut self.checker).finish(follower);
+        if let Some(traces) = &mut self.traces {
+            traces.end(follower, capture, &report);
+        }
         let (begun, counts, rules) = (self.begun.unwrap_or_default(), follower.counts(), self.rules.len());
         let whole = Whole { begun, report: &report, capture, counts, rules, allowed: self.allowed };
         self.is_broken |= whole.broken(Level::Must) > 0;

@@ -133,6 +133,8 @@ options, of which --keylog, --only and --allow may be repeated:
   --only RULE          check only this rule
   --allow RULE=REASON  print what breaks this rule with the reason, and don't count it
   --should             also check rules that are no MUST
+  --qlog DIR           also write the packets to DIR, as quic-wire capture --qlog does; at the end of each trace, what
+                       breaks a rule in that connection
   --rules              print the rules, those of --only or all, and what each needs; read no FILE
   --json               print a JSON object per line, without colours
   --sarif              print one object of SARIF 2.1.0, for CI systems

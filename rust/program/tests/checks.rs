@@ -18,8 +18,12 @@ use json::{Json, Schema};
 use made::{Client, Made, Server, Short};
 use program::run;
 use std::collections::BTreeSet;
+use std::fs;
 
 const SCHEMA: &str = include_str!("../../../docs/check.schema.json");
+
+/// The name of a finding in a trace.
+const FINDING: &str = "quic_wire:rule_broken";
 
 // A connection both of whose sides send a short Initial packet (RFC 9000, section 14.1), the client twice a
 // HANDSHAKE_DONE (section 19.20), and the server no original_destination_connection_id (section 7.3), and a
@@ -72,7 +76,8 @@ fn statuses() {
     assert_eq!(status(&["--only", "path-size", "--keylog", &keys, &file]), 0);
     assert_eq!(status(&["--keylog", &keys, &file, "no such file"]), 3);
     assert_eq!(status(&["--keylog", "no such file", SMALL]), 3);
-    assert_eq!(status(&["--qlog", "folder", SMALL]), 2);
+    assert_eq!(status(&["--lost", SMALL]), 2);
+    assert_eq!(status(&["--qlog", &file, SMALL]), 3);
     assert_eq!(status(&["--at", "home", SMALL]), 2);
     assert_eq!(status(&["--json", "--sarif", SMALL]), 2);
     let (_, said, status) = run(&["check", "--only", "frame-sendr", SMALL], b"");
@@ -159,6 +164,71 @@ fn a_finding_says_where() {
     assert_eq!((number("record"), number("last_record"), number("count")), (4, 5, 2));
     // A short header of a byte, an id of 6 and a packet number of 1 byte, then PING.
     assert_eq!((number("offset_in_datagram"), number("offset_in_payload")), (9, 1));
+}
+
+// The text of a trace, and its findings' events: the last ones.
+fn trace(path: &str) -> (String, Vec<Json>) {
+    let text = fs::read_to_string(path).unwrap();
+    let events = text.strip_prefix('\x1e').unwrap().split("\n\x1e").skip(1).map(Json::read);
+    let findings = events.skip_while(|event| event.at("name").text() != FINDING);
+    let findings: Vec<_> = findings.collect();
+    assert!(findings.iter().all(|event| event.at("name").text() == FINDING), "{text}");
+    (text, findings)
+}
+
+// A trace is that of `capture`, and behind it a finding has its members of `--json`, except those of the line.
+#[test]
+fn findings_in_traces() {
+    let folder = Folder::new("check-traces");
+    let (file, keys) = files(&folder);
+    let allowed = ["--allow", "frame-sender=why", "--keylog", &keys, &file];
+    let (checked, shown) = (folder.path("new/checked"), folder.path("shown"));
+    let (text, said, status) = run(&[&["check", "--qlog", &checked], &allowed[..]].concat(), b"");
+    assert_eq!((&text, &said[..], status), (&run(&[&["check"], &allowed[..]].concat(), b"").0, "", 1));
+    run(&["capture", "--qlog", &shown, "--keylog", &keys, &file], b"");
+    let (text, findings) = trace(&format!("{checked}/broken.pcap.0.sqlog"));
+    assert!(text.starts_with(&fs::read_to_string(format!("{shown}/broken.pcap.0.sqlog")).unwrap()), "{text}");
+    let all = objects(&allowed);
+    let objects: Vec<_> = all.iter().filter(|object| object.at("kind").text() == "finding").collect();
+    assert!(objects.len() == findings.len() && objects.len() == 4, "{findings:?}");
+    let mut schema = Schema::read(SCHEMA);
+    for (finding, object) in findings.iter().zip(objects) {
+        let of_line = ["kind", "time", "connection"];
+        let members = object.members().iter().filter(|(name, _)| !of_line.contains(&&name[..]));
+        let line = Json::Object(members.cloned().collect());
+        assert_eq!(finding.at("data"), &line);
+        schema.check(object);
+        // A connection's trace begins with the capture.
+        let Json::Number(millis) = finding.at("time") else { panic!("{finding:?}") };
+        let seconds = object.at("time");
+        assert_eq!(format!("{:.9}", millis.parse::<f64>().unwrap() / 1000.0), digits(seconds));
+    }
+}
+
+fn digits(number: &Json) -> String {
+    let Json::Number(digits) = number else { panic!("{number:?}") };
+    format!("{:.9}", digits.parse::<f64>().unwrap())
+}
+
+// The first connection is forgotten while the second one goes on.
+#[test]
+fn traces_of_connections_that_are_forgotten() {
+    let folder = Folder::new("check-forgotten");
+    let ((mut one, mut all), mut other) = (broken(), Made::new(2));
+    all.push(one.send(Client, Short, &[0x1d, 0, 0]));
+    other.time = one.time + 20_000_000_000;
+    all.extend(other.handshake());
+    all.extend((0..2200).map(|_| other.send(Client, Short, &[1])));
+    let (file, keys) = (folder.write("two.pcap", pcap(&all)), folder.write("keys", one.key_log() + &other.key_log()));
+    let qlog = folder.path("qlog");
+    run(&["check", "--qlog", &qlog, "--keylog", &keys, &file], b"");
+    let rules = |number: usize| {
+        let findings = trace(&format!("{qlog}/two.pcap.{number}.sqlog")).1;
+        findings.iter().map(|event| event.at("data.rule").text().to_string()).collect::<Vec<_>>()
+    };
+    assert_eq!(rules(0).iter().filter(|rule| *rule == "frame-sender").count(), 1);
+    assert_eq!(rules(1).iter().filter(|rule| *rule == "frame-sender").count(), 0);
+    assert!(rules(0).len() >= 4 && !rules(1).is_empty(), "{:?} {:?}", rules(0), rules(1));
 }
 
 fn sarif(arguments: &[&str]) -> Json {

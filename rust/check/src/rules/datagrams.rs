@@ -31,6 +31,13 @@ pub(super) static RULES: &[Rule] = &[
     )
     .with(History::Whole, AMPLIFICATION),
     Rule::must(
+        "path-amplification",
+        "9.3",
+        "A server sends at most three times as many bytes to another address as came from there until it is validated.",
+        Check::Datagram(path_amplification),
+    )
+    .with(History::Whole, AMPLIFICATION),
+    Rule::must(
         "payload-size",
         "18.2",
         "A datagram has at most as many bytes as the receiver's max_udp_payload_size says.",
@@ -66,6 +73,18 @@ fn amplification(about: &About<'_>) -> Checked {
     Broken::new(seen, format!("at most {} bytes", client.saturating_mul(3)))
         .at(0)
         .if_still(Claim::Bytes(server))
+        .found()
+}
+
+fn path_amplification(about: &About<'_>) -> Checked {
+    let peer = about.history.peer(about.datagram.to).filter(|_| about.sender == Side::Server);
+    let Some(peer) = peer.filter(|peer| !peer.is_valid && peer.sent > peer.received.saturating_mul(3)) else {
+        return Ok(None);
+    };
+    let (to, sent, received) = (about.datagram.to, peer.sent, peer.received);
+    Broken::new(format!("{sent} bytes sent to {to}, {received} received"), format!("at most {}", received * 3))
+        .at(0)
+        .if_still(Claim::BytesTo(to, sent))
         .found()
 }
 

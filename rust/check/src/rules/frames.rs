@@ -1,5 +1,6 @@
 //! Frames by themselves, and those that name no stream and no id.
 
+use super::packets::is_to_retry;
 use crate::about::{About, Faulty, Held, name_of};
 use crate::claim::Claim;
 use crate::rule::{Broken, Check, Checked, History, Need, Rule, Section};
@@ -60,6 +61,37 @@ pub(super) static RULES: &[Rule] = &[
         Check::Frame(path_response),
     )
     .with(History::Whole, &[Need::Begin, Need::PeerPackets, Need::OwnPackets]),
+    Rule::must(
+        "response-twice",
+        "8.2.2",
+        "A PATH_CHALLENGE is answered by at most one PATH_RESPONSE.",
+        Check::Frame(response_twice),
+    )
+    .with(History::Whole, &[Need::Begin, Need::PeerPackets, Need::OwnPackets]),
+    Rule::must(
+        "response-path",
+        "8.2.2",
+        "A server sends PATH_RESPONSE to the address from which the PATH_CHALLENGE came.",
+        Check::Frame(response_path),
+    )
+    .with(History::Before, &[]),
+    Rule::must("challenge-data", "8.2.1", "Each PATH_CHALLENGE has data of its own.", Check::Frame(challenge_data))
+        .with(History::Before, &[]),
+    Rule::must(
+        "update-answer",
+        "6.2",
+        "A packet that acknowledges one with new keys has new keys.",
+        Check::Frame(update_answer),
+    )
+    .of(9001)
+    .with(History::Before, &[Need::Begin]),
+    Rule::must(
+        "retry-hello",
+        "17.2.5.3",
+        "After a Retry a client sends the same handshake message as before.",
+        Check::Frame(retry_hello),
+    )
+    .with(History::Before, &[Need::Begin]),
     Rule::must(
         "path-size",
         "8.2.1",
@@ -190,13 +222,74 @@ fn datagram_size(about: &About<'_>, opened: &Opened<'_>, held: &Held<'_>) -> Che
 
 fn path_response(about: &About<'_>, _: &Opened<'_>, held: &Held<'_>) -> Checked {
     let Frame::PathResponse(data) = held.frame else { return Ok(None) };
-    if held.permitted.is_err() || about.peer_half().challenges.contains(data) {
+    if held.permitted.is_err() || about.peer_half().challenges.contains_key(data) {
         return Ok(None);
     }
     let seen = format!("a PATH_RESPONSE with the data {data:016x}");
     Broken::new(seen, "the data of a PATH_CHALLENGE")
         .in_payload(held.range.start)
         .if_still(Claim::Answer(*data))
+        .found()
+}
+
+fn response_twice(about: &About<'_>, _: &Opened<'_>, held: &Held<'_>) -> Checked {
+    let Frame::PathResponse(data) = held.frame else { return Ok(None) };
+    if held.permitted.is_err() || !about.own_half().responses.contains(data) {
+        return Ok(None);
+    }
+    let seen = format!("a second PATH_RESPONSE with the data {data:016x}");
+    Broken::new(seen, "only one").in_payload(held.range.start).if_still(Claim::AnswerAgain).found()
+}
+
+// A client may be behind a NAT that changes its port between both.
+fn response_path(about: &About<'_>, _: &Opened<'_>, held: &Held<'_>) -> Checked {
+    let Frame::PathResponse(data) = held.frame else { return Ok(None) };
+    let challenge = about.peer_half().challenges.get(data).filter(|_| about.sender == Side::Server);
+    let Some(path) = challenge.filter(|path| path.from != about.datagram.to) else { return Ok(None) };
+    Broken::new(format!("a PATH_RESPONSE to {}", about.datagram.to), format!("one to {}", path.from))
+        .in_payload(held.range.start)
+        .found()
+}
+
+fn challenge_data(about: &About<'_>, _: &Opened<'_>, held: &Held<'_>) -> Checked {
+    let Frame::PathChallenge(data) = held.frame else { return Ok(None) };
+    if held.permitted.is_err() || !about.own_half().challenges.contains_key(data) {
+        return Ok(None);
+    }
+    Broken::new(format!("a second PATH_CHALLENGE with the data {data:016x}"), "other data")
+        .in_payload(held.range.start)
+        .found()
+}
+
+fn update_answer(about: &About<'_>, opened: &Opened<'_>, held: &Held<'_>) -> Checked {
+    let Frame::Ack(ack) = held.frame else { return Ok(None) };
+    let newer = about.peer_half().phase.filter(|phase| phase.updates > opened.updates());
+    let Some(phase) = newer.filter(|_| opened.kind() == HeaderKind::Short) else { return Ok(None) };
+    if !ack.iter().any(|range| range.contains(&phase.first)) {
+        return Ok(None);
+    }
+    Broken::new(format!("old keys, and an ACK of number {}, which has new ones", phase.first), "new keys")
+        .in_payload(held.range.start)
+        .found()
+}
+
+fn retry_hello(about: &About<'_>, opened: &Opened<'_>, held: &Held<'_>) -> Checked {
+    let Frame::Crypto(crypto) = held.frame else { return Ok(None) };
+    if opened.kind() != HeaderKind::Initial || !is_to_retry(about, opened) {
+        return Ok(None);
+    }
+    let same = |(offset, bytes): &(u64, Vec<u8>)| {
+        let begin = crypto.offset.max(*offset);
+        let [one, two] = [(crypto.offset, crypto.bytes), (*offset, &bytes[..])]
+            .map(|(offset, bytes)| bytes.get((begin - offset) as usize..).unwrap_or_default());
+        let pairs = one.iter().zip(two);
+        pairs.into_iter().all(|(one, two)| one == two)
+    };
+    if about.history.hello.iter().all(same) {
+        return Ok(None);
+    }
+    Broken::new("CRYPTO data that differ from those before the Retry", "the same data")
+        .in_payload(held.range.start)
         .found()
 }
 

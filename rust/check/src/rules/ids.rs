@@ -1,8 +1,9 @@
 //! Connection ids that are issued and retired.
 
 use crate::about::{About, Held, id_text};
-use crate::claim::{Claim, active_ids, last_id};
+use crate::claim::{Claim, active_ids, is_given, last_id};
 use crate::rule::{Broken, Check, Checked, History, Need, Rule};
+use quic_wire::ResetToken;
 use quic_wire::frame::{Frame, NewConnectionId};
 use quic_wire_capture::opened::Opened;
 
@@ -33,6 +34,32 @@ pub(super) static RULES: &[Rule] = &[
         History::Whole,
         &[Need::Begin, Need::PeerParameters, Need::PeerPackets, Need::OwnPackets, Need::Order, Need::End],
     ),
+    Rule::must(
+        "id-sequence",
+        "5.1.1",
+        "The sequence number of a new id is one greater than that before.",
+        Check::Frame(id_sequence),
+    )
+    .with(History::Whole, &[Need::Begin, Need::OwnPackets, Need::OwnNumbers, Need::NoEarlyData]),
+    Rule::must("token-twice", "10.3", "A reset token belongs to one id.", Check::Frame(token_twice))
+        .with(History::Before, &[]),
+    Rule::must(
+        "retire-prior",
+        "5.1.2",
+        "A side stops using ids below a Retire Prior To before it acknowledges the packet that has it.",
+        Check::Packet(retire_prior),
+    )
+    .with(History::Before, &[Need::Begin]),
+    Rule::must("retired-id", "5.1.2", "An id isn't used again after RETIRE_CONNECTION_ID.", Check::Packet(retired_id))
+        .should()
+        .with(History::Before, &[Need::Begin]),
+    Rule::must(
+        "retire-without-bytes",
+        "19.16",
+        "A side whose peer's first id is empty sends no RETIRE_CONNECTION_ID.",
+        Check::Frame(retire_without_bytes),
+    )
+    .with(History::Before, &[Need::Begin]),
     Rule::must(
         "retire-unknown",
         "19.16",
@@ -109,6 +136,62 @@ fn id_count(about: &About<'_>, _: &Opened<'_>, held: &Held<'_>) -> Checked {
         .in_payload(held.range.start)
         .if_still(Claim::Ids)
         .found()
+}
+
+// With the sequence number before, any gap below it shows at an id before it.
+fn id_sequence(about: &About<'_>, _: &Opened<'_>, held: &Held<'_>) -> Checked {
+    let Some(new) = new_id(held).filter(|new| new.sequence > 0) else { return Ok(None) };
+    if is_given(about.connection, about.history, about.sender, new.sequence - 1) {
+        return Ok(None);
+    }
+    Broken::new(format!("the sequence number {}", new.sequence), format!("{} before it", new.sequence - 1))
+        .in_payload(held.range.start)
+        .if_still(Claim::Gap(new.sequence))
+        .found()
+}
+
+fn token_twice(about: &About<'_>, _: &Opened<'_>, held: &Held<'_>) -> Checked {
+    let Some(new) = new_id(held) else { return Ok(None) };
+    let has_token = |token: Option<&ResetToken>| token.is_some_and(|token| *token == new.reset_token);
+    let Some((other, ..)) = about.end().ids().find(|(one, _, token)| *one != new.sequence && has_token(*token)) else {
+        return Ok(None);
+    };
+    let seen = format!("the reset token of sequence number {other}, for {}", new.sequence);
+    Broken::new(seen, "another token").in_payload(held.range.start).found()
+}
+
+// The sequence number of the id to which a 1-RTT packet goes.
+fn sequence_to(about: &About<'_>, opened: &Opened<'_>) -> Option<u64> {
+    let id = opened.packet().dst_cid();
+    let mut ids = about.peer().ids().filter(|_| opened.packet().header().is_short());
+    ids.find(|(_, one, _)| !one.is_empty() && ***one == *id).map(|(sequence, ..)| sequence)
+}
+
+fn retire_prior(about: &About<'_>, opened: &Opened<'_>) -> Checked {
+    let Some((prior, by)) = about.own_half().heeded.filter(|(_, by)| opened.number() > *by) else { return Ok(None) };
+    let Some(sequence) = sequence_to(about, opened).filter(|sequence| *sequence < prior) else { return Ok(None) };
+    let seen = format!("a packet to the id with sequence number {sequence}, after the ACK in packet {by}");
+    Broken::new(seen, format!("at least {prior}, the Retire Prior To")).at(id_at(opened)).found()
+}
+
+fn retired_id(about: &About<'_>, opened: &Opened<'_>) -> Checked {
+    let Some(sequence) = sequence_to(about, opened) else { return Ok(None) };
+    let by = about.peer_half().retired.get(&sequence).filter(|by| **by < opened.number());
+    let Some(by) = by else { return Ok(None) };
+    let seen = format!("a packet to the id with sequence number {sequence}, which packet {by} retires");
+    Broken::new(seen, "another id").at(id_at(opened)).found()
+}
+
+// Where the id begins in the datagram.
+fn id_at(opened: &Opened<'_>) -> usize {
+    opened.packet().place().range().start + opened.packet().header().dst_cid_pos().start
+}
+
+fn retire_without_bytes(about: &About<'_>, _: &Opened<'_>, held: &Held<'_>) -> Checked {
+    if retired(held).is_none() || about.peer().first_scid().is_none_or(|id| !id.is_empty()) {
+        return Ok(None);
+    }
+    Broken::new("RETIRE_CONNECTION_ID to a side whose first id is empty", "none").in_payload(held.range.start).found()
 }
 
 fn retire_unknown(about: &About<'_>, _: &Opened<'_>, held: &Held<'_>) -> Checked {

@@ -2,7 +2,8 @@
 
 use crate::about::{About, id_text};
 use crate::claim::{Claim, GRACE, distance, is_issued};
-use crate::rule::{Broken, Check, Checked, History, Need, Rule};
+use crate::history::{Moment, Phase};
+use crate::rule::{Broken, Check, Checked, History, Need, Rule, Section};
 use quic_wire::datagram::{HeaderKind, PacketRef};
 use quic_wire::ids::SpaceId;
 use quic_wire::{ConnectionId, Side};
@@ -39,13 +40,36 @@ pub(super) static RULES: &[Rule] = &[
     )
     .with(History::Whole, &[Need::Begin, Need::PeerPackets]),
     Rule::must(
+        "source-id",
+        "7.2",
+        "The long headers of a side have one Source Connection ID; packets with another one are discarded.",
+        Check::Done(source_id),
+    )
+    .should()
+    .with(History::Before, &[Need::Begin]),
+    Rule::must(
         "discarded-keys",
-        "4.9.1",
-        "A client sends no Initial packet after its first Handshake packet.",
+        "4.9",
+        "A side sends no Initial and no Handshake packets once it has to discard their keys.",
         Check::Packet(discarded_keys),
     )
     .of(9001)
     .with(History::Before, &[Need::Begin, Need::Order, Need::Time]),
+    Rule::must(
+        "zero-rtt-late",
+        "17.2.3",
+        "A client sends no 0-RTT packet after a 1-RTT packet.",
+        Check::Packet(zero_rtt_late),
+    )
+    .with(History::Before, &[]),
+    Rule::must(
+        "old-keys",
+        "6.4",
+        "A packet has no older keys than one with a smaller number.",
+        Check::Packet(old_keys),
+    )
+    .of(9001)
+    .with(History::Before, &[]),
     Rule::must("number-reuse", "12.3", "A packet number is used once in its number space.", Check::Again(number_reuse))
         .with(History::Before, &[]),
     Rule::must(
@@ -70,6 +94,21 @@ pub(super) static RULES: &[Rule] = &[
     )
     .with(History::Before, &[]),
     Rule::must("retry-token", "17.2.5.2", "A Retry has a token.", Check::Retry(retry_token)),
+    Rule::must(
+        "initial-token",
+        "8.1.2",
+        "After a Retry all Initial packets of the client have the Retry's token.",
+        Check::Packet(initial_token),
+    )
+    .with(History::Before, &[Need::Begin]),
+    Rule::must(
+        "retry-version",
+        "4.1",
+        "After a Retry the client goes on with the Retry's version.",
+        Check::Packet(retry_version),
+    )
+    .of(9369)
+    .with(History::Before, &[Need::Begin]),
     Rule::must(
         "retry-id",
         "17.2.5.1",
@@ -150,11 +189,26 @@ fn destination_id(about: &About<'_>, opened: &Opened<'_>) -> Checked {
     Broken::new(id_text(&id), expected).at(at).if_still(Claim::Destination(id)).found()
 }
 
+// A Version Negotiation lets a client begin anew.
+fn source_id(about: &About<'_>, opened: &Opened<'_>) -> Checked {
+    let header = opened.packet().header();
+    let Some(first) = about.own_half().sources.first().filter(|_| !header.is_short()) else { return Ok(None) };
+    let is_anew = opened.kind() == HeaderKind::Initial && header.version() != about.connection.version();
+    // A server that keeps no state closes each time from another id.
+    if *opened.packet().src_cid() == **first || is_anew || about.current.has_close {
+        return Ok(None);
+    }
+    let id = ConnectionId::try_from(opened.packet().src_cid()).unwrap_or_default();
+    let at = begin(opened) + header.src_cid_pos().start;
+    let broken = Broken::new(format!("{} as the source", id_text(&id)), id_text(first)).at(at);
+    let is_after_retry = about.sender == Side::Client && about.connection.retry_id().is_some();
+    if is_after_retry { broken.by("17.2.5.2").found() } else { broken.found() }
+}
+
 fn discarded_keys(about: &About<'_>, opened: &Opened<'_>) -> Checked {
-    let Some((time, record)) = about.own_half().handshake else { return Ok(None) };
-    let is_new = about.end().largest(SpaceId::Initial).is_none_or(|largest| opened.number() > largest);
-    let is_initial = about.sender == Side::Client && opened.kind() == HeaderKind::Initial;
-    if !is_initial || !is_new || record == about.datagram.record {
+    let Some(Moment { time, record }) = about.own_half().discarded(opened.space()) else { return Ok(None) };
+    let is_new = about.end().largest(opened.space()).is_none_or(|largest| opened.number() > largest);
+    if !is_new || record == about.datagram.record {
         return Ok(None);
     }
     // Where it was sent, the order of the records is that in which it was.
@@ -162,9 +216,29 @@ fn discarded_keys(about: &About<'_>, opened: &Opened<'_>) -> Checked {
     if about.datagram.time < time.saturating_add(least) {
         return Err(Need::Time);
     }
-    Broken::new(format!("an Initial packet after the Handshake packet of record {record}"), "none")
+    let (number, seen) = match (opened.space(), about.sender) {
+        (SpaceId::Initial, Side::Client) => ("4.9.1", "an Initial packet after the Handshake packet of record"),
+        (SpaceId::Initial, _) => ("4.9.1", "an Initial packet after the ACK of a Handshake packet in record"),
+        (_, Side::Client) => ("4.9.2", "a Handshake packet after the ACK of HANDSHAKE_DONE in record"),
+        (_, _) => ("4.9.2", "a Handshake packet after the HANDSHAKE_DONE of record"),
+    };
+    Broken::new(format!("{seen} {record}"), "none").by_section(Section { rfc: 9001, number }).at(begin(opened)).found()
+}
+
+fn zero_rtt_late(about: &About<'_>, opened: &Opened<'_>) -> Checked {
+    let least = about.own_half().least_short.filter(|least| *least < opened.number());
+    let Some(least) = least.filter(|_| opened.kind() == HeaderKind::ZeroRtt) else { return Ok(None) };
+    Broken::new(format!("0-RTT packet {} after 1-RTT packet {least}", opened.number()), "1-RTT packets")
         .at(begin(opened))
         .found()
+}
+
+fn old_keys(about: &About<'_>, opened: &Opened<'_>) -> Checked {
+    let is_older = |phase: &Phase| opened.updates() < phase.updates && opened.number() > phase.first;
+    let phase = about.own_half().phase.filter(|_| opened.kind() == HeaderKind::Short);
+    let Some(phase) = phase.filter(is_older) else { return Ok(None) };
+    let seen = format!("number {} with keys of before the update at number {}", opened.number(), phase.first);
+    Broken::new(seen, "the new keys").at(begin(opened)).found()
 }
 
 // After a Version Negotiation a client begins anew with another version, perhaps with the same ids.
@@ -175,7 +249,15 @@ fn number_reuse(about: &About<'_>, opened: &Opened<'_>, before: &Sent) -> Checke
         return Ok(None);
     }
     let seen = format!("number {} again, with other contents than in record {}", opened.number(), before.record);
-    Broken::new(seen, "a number that wasn't used before").at(number_at(opened)).found()
+    let broken = Broken::new(seen, "a number that wasn't used before").at(number_at(opened));
+    let is_after_retry = opened.kind() == HeaderKind::Initial && is_to_retry(about, opened);
+    if is_after_retry { broken.by("17.2.5.3").found() } else { broken.found() }
+}
+
+/// Whether a client sends a packet to another id than its first one, as it does after a Retry.
+pub(super) fn is_to_retry(about: &About<'_>, opened: &Opened<'_>) -> bool {
+    let first = about.connection.first_dcid();
+    about.sender == Side::Client && about.history.retry.is_some() && *opened.packet().dst_cid() != **first
 }
 
 fn number_length(about: &About<'_>, opened: &Opened<'_>) -> Checked {
@@ -224,6 +306,32 @@ fn retry_token(_: &About<'_>, packet: &PacketRef<'_>) -> Checked {
         Some(([], _)) => Broken::new("an empty token", "a token").at(begin + packet.header().header_end()).found(),
         _ => Ok(None),
     }
+}
+
+fn initial_token(about: &About<'_>, opened: &Opened<'_>) -> Checked {
+    let retry = about.history.retry.as_ref().filter(|_| is_to_retry(about, opened));
+    let Some(retry) = retry else { return Ok(None) };
+    let packet = opened.packet();
+    if opened.kind() != HeaderKind::Initial || *packet.token() == retry.token[..] {
+        return Ok(None);
+    }
+    let len = packet.token().len();
+    let seen = if len == 0 { "no token".into() } else { format!("another token, of {len} bytes") };
+    let at = begin(opened) + packet.header().token_pos().start;
+    Broken::new(seen, format!("the token of the Retry, {} bytes", retry.token.len())).at(at).found()
+}
+
+// Once the server has answered, versions may change again (RFC 9368).
+fn retry_version(about: &About<'_>, opened: &Opened<'_>) -> Checked {
+    let is_next = is_to_retry(about, opened) && about.peer().first_scid().is_none();
+    let Some(retry) = about.history.retry.as_ref().filter(|_| is_next) else { return Ok(None) };
+    let version = opened.packet().header().version();
+    if opened.kind() != HeaderKind::Initial || version == retry.version {
+        return Ok(None);
+    }
+    Broken::new(format!("version {version:#x}"), format!("that of the Retry, {:#x}", retry.version))
+        .at(begin(opened) + 1)
+        .found()
 }
 
 fn retry_id(about: &About<'_>, packet: &PacketRef<'_>) -> Checked {

@@ -1,9 +1,14 @@
 //! Transport parameters.
 
 use crate::about::{About, id_text};
+use crate::claim::Claim;
 use crate::rule::{Broken, Check, Checked, History, Need, Rule};
-use quic_wire::transport_parameters::{Error, Refusal, TransportParameterId, TransportParameters, known};
-use quic_wire::{ConnectionId, Side};
+use quic_wire::transport_parameters::{Error, Refusal, TransportParameterId, TransportParameters, entries, known};
+use quic_wire::{ConnectionId, Side, versions};
+use quic_wire_capture::opened::Opened;
+
+// RFC 9368, section 3.
+const VERSION_INFORMATION: u64 = 0x11;
 
 pub(super) static RULES: &[Rule] = &[
     Rule::must(
@@ -25,14 +30,29 @@ pub(super) static RULES: &[Rule] = &[
         "original_destination_connection_id is the id to which the client sent its first Initial packet.",
         Check::Parameters(original_destination),
     )
-    .with(History::Before, &[Need::Begin, Need::NoToken]),
+    .with(History::Whole, &[Need::Begin, Need::OwnPackets, Need::NoToken]),
     Rule::must(
         "retry-source-id",
         "7.3",
         "retry_source_connection_id is the Source Connection ID of the server's Retry, and there only after one.",
         Check::Parameters(retry_source),
     )
-    .with(History::Before, &[Need::Begin, Need::NoToken]),
+    .with(History::Whole, &[Need::Begin, Need::OwnPackets, Need::NoToken]),
+    Rule::must(
+        "version-information",
+        "3",
+        "version_information has a chosen version and available ones, none of them 0.",
+        Check::List(version_information),
+    )
+    .of(9368),
+    Rule::must(
+        "chosen-version",
+        "4",
+        "The chosen version is that of the client's first packets, or the one that the server negotiated.",
+        Check::List(chosen_version),
+    )
+    .of(9368)
+    .with(History::Before, &[Need::Begin]),
 ];
 
 fn refused(_: &About<'_>, list: &[u8], refusal: &Refusal) -> Checked {
@@ -51,37 +71,56 @@ fn refused(_: &About<'_>, list: &[u8], refusal: &Refusal) -> Checked {
     Broken::new(seen, "a list that can be read").by(section).found()
 }
 
-fn compared(name: &str, given: Option<&ConnectionId>, used: Option<&ConnectionId>) -> Checked {
-    if given == used {
+// The value of version_information, if it is there.
+fn versions_of(list: &[u8]) -> Option<&[u8]> {
+    entries(list).flatten().find(|entry| entry.id == VERSION_INFORMATION).map(|entry| entry.value)
+}
+
+fn version_information(_: &About<'_>, _: &Opened<'_>, list: &[u8]) -> Checked {
+    match versions_of(list) {
+        Some(value) if versions::read(value).is_none() => {
+            let seen = format!("version_information of {} bytes", value.len());
+            Broken::new(seen, "one or more versions of 4 bytes each, none of them 0").found()
+        }
+        _ => Ok(None),
+    }
+}
+
+// A client's message may be whole only with a packet of the version that the server has chosen.
+fn chosen_version(about: &About<'_>, opened: &Opened<'_>, list: &[u8]) -> Checked {
+    let Some((chosen, _)) = versions_of(list).and_then(versions::read) else { return Ok(None) };
+    let version = opened.packet().header().version();
+    if chosen == version || chosen == about.connection.version() {
         return Ok(None);
     }
+    Broken::new(format!("the chosen version {chosen:#x}"), format!("{version:#x}, the packet's")).found()
+}
+
+fn compared(name: &str, given: Option<&ConnectionId>, used: Option<&ConnectionId>) -> Option<Broken> {
     let text = |id: Option<&ConnectionId>| id.map_or("none".into(), id_text);
-    Broken::new(format!("{name}: {}", text(given)), text(used)).found()
+    (given != used).then(|| Broken::new(format!("{name}: {}", text(given)), text(used)))
 }
 
 fn initial_source(about: &About<'_>, given: &TransportParameters) -> Checked {
-    compared("initial_source_connection_id", given.initial_src_cid.as_ref(), about.end().first_scid())
+    Ok(compared("initial_source_connection_id", given.initial_src_cid.as_ref(), about.end().first_scid()))
 }
 
 // Without its Retry a connection seems to begin with the packet after that, which has a token.
-fn retry_is_known(about: &About<'_>) -> Result<(), Need> {
-    let may_follow_retry = about.history.has_token && about.connection.retry_id().is_none();
-    if may_follow_retry { Err(Need::NoToken) } else { Ok(()) }
+fn unless_retried(broken: Option<Broken>) -> Checked {
+    Ok(broken.map(|broken| broken.if_still(Claim::Retry)))
 }
 
 fn original_destination(about: &About<'_>, given: &TransportParameters) -> Checked {
     if about.sender == Side::Client {
         return Ok(None);
     }
-    retry_is_known(about)?;
     let used = about.connection.first_dcid();
-    compared("original_destination_connection_id", given.original_dst_cid.as_ref(), Some(used))
+    unless_retried(compared("original_destination_connection_id", given.original_dst_cid.as_ref(), Some(used)))
 }
 
 fn retry_source(about: &About<'_>, given: &TransportParameters) -> Checked {
     if about.sender == Side::Client {
         return Ok(None);
     }
-    retry_is_known(about)?;
-    compared("retry_source_connection_id", given.retry_src_cid.as_ref(), about.connection.retry_id())
+    unless_retried(compared("retry_source_connection_id", given.retry_src_cid.as_ref(), about.connection.retry_id()))
 }

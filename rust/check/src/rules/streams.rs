@@ -5,6 +5,7 @@ use crate::about::{About, Held, name_of};
 use crate::claim::{Claim, count_limit, data_limit, stream_limit};
 use crate::history::{data_of, stream_of, type_of};
 use crate::rule::{Broken, Check, Checked, History, Need, Rule};
+use quic_wire::frame::Frame;
 use quic_wire::permitted::Forbidden;
 use quic_wire_capture::opened::Opened;
 
@@ -37,6 +38,13 @@ pub(super) static RULES: &[Rule] = &[
         "4.5",
         "The final size of a stream doesn't change, and no data are beyond it.",
         Check::Frame(final_size),
+    )
+    .with(History::Before, &[Need::NoEarlyData]),
+    Rule::must(
+        "after-reset",
+        "3.3",
+        "After RESET_STREAM its sender sends no STREAM and no STREAM_DATA_BLOCKED of the stream.",
+        Check::Frame(after_reset),
     )
     .with(History::Before, &[Need::NoEarlyData]),
     Rule::must(
@@ -103,6 +111,15 @@ fn final_size(about: &About<'_>, _: &Opened<'_>, held: &Held<'_>) -> Checked {
         }
         _ => Ok(None),
     }
+}
+
+fn after_reset(about: &About<'_>, opened: &Opened<'_>, held: &Held<'_>) -> Checked {
+    let (Frame::Stream(_) | Frame::StreamDataBlocked { .. }) = held.frame else { return Ok(None) };
+    let Some(id) = stream_of(held.frame).filter(|_| held.permitted.is_ok()) else { return Ok(None) };
+    let reset = about.own_half().streams.get(&u64::from(id)).and_then(|stream| stream.reset);
+    let Some(reset) = reset.filter(|reset| *reset < opened.number()) else { return Ok(None) };
+    let seen = format!("{} for stream {}, after RESET_STREAM in packet {reset}", name_of(held.ty), u64::from(id));
+    Broken::new(seen, "none").in_payload(held.range.start).found()
 }
 
 fn stream_count(about: &About<'_>, _: &Opened<'_>, held: &Held<'_>) -> Checked {

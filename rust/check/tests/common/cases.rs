@@ -7,10 +7,14 @@ mod datagrams;
 mod frames;
 #[path = "cases/ids.rs"]
 mod ids;
+#[path = "cases/keys.rs"]
+mod keys;
 #[path = "cases/packets.rs"]
 mod packets;
 #[path = "cases/parameters.rs"]
 mod parameters;
+#[path = "cases/retry.rs"]
+mod retry;
 #[path = "cases/streams.rs"]
 mod streams;
 
@@ -94,12 +98,11 @@ impl Case {
     }
 }
 
-/// All of them, in the order of the rules' table.
+/// All of them.
 pub fn all() -> Vec<Case> {
-    [datagrams::all(), packets::all(), frames::all(), streams::all(), ids::all(), parameters::all()]
-        .into_iter()
-        .flatten()
-        .collect()
+    let packets = [datagrams::all(), packets::all(), keys::all(), retry::all()];
+    let frames = [frames::all(), streams::all(), ids::all(), parameters::all()];
+    packets.into_iter().chain(frames).flatten().collect()
 }
 
 /// The manifest: JSON with a line for each.
@@ -177,7 +180,15 @@ fn send(talk: &mut Talk, sender: Side, kind: HeaderKind, payload: &[u8], at: At)
     last(talk, sender, kind, number, at)
 }
 
-/// The same of a 1-RTT packet with a frame in these bytes of its payload, after which both sides acknowledge all.
+/// Exchanges the last two datagrams, and their times.
+fn swap_last(talk: &mut Talk) {
+    if let [.., one, two] = &mut talk.all[..] {
+        std::mem::swap(one, two);
+        std::mem::swap(&mut one.time, &mut two.time);
+    }
+}
+
+/// Sends a 1-RTT packet with a frame in these bytes of its payload, after which both sides acknowledge all.
 fn plant(talk: &mut Talk, sender: Side, payload: &[u8], frame: Range<usize>) -> Spot {
     let spot = send(talk, sender, Short, payload, At::Payload(frame));
     talk.later();

@@ -8,6 +8,8 @@ pub struct Checks {
     pub json: bool,
     pub colours: When,
     pub keylogs: Vec<OsString>,
+    /// The folder for traces.
+    pub qlog: Option<OsString>,
     /// Whether the table of rules is printed.
     pub rules: bool,
     /// The names of the rules that are applied; all if there are none.
@@ -36,11 +38,11 @@ pub(super) const PLACES: [(&str, Place); 3] =
 impl Options {
     pub(super) fn check(self, files: Vec<OsString>) -> Result<Checks, String> {
         self.check_for("check")?;
-        let Options { json, colours, keylogs, rules, only, should, at, allowed, sarif, .. } = self;
+        let Options { json, colours, keylogs, qlog, rules, only, should, at, allowed, sarif, .. } = self;
         if json && sarif {
             return Err("--json and --sarif exclude each other".into());
         }
-        Ok(Checks { json, colours, keylogs, rules, only, should, at, allowed, sarif, files })
+        Ok(Checks { json, colours, keylogs, qlog, rules, only, should, at, allowed, sarif, files })
     }
 }
 

@@ -343,6 +343,10 @@ impl Form for Qlog<'_> {
 
     fn rest(&mut self, _: &Place<'_>, _: usize, _: Rest) {}
 
+    fn note(&mut self, connection: &Connection, time: u64, name: &str, fill: &dyn Fn(&mut Object<'_>)) {
+        self.event(connection, time, name, fill);
+    }
+
     fn connection(&mut self, sum: &Sum<'_>) {
         self.write(sum.connection.number());
         self.traces.remove(&sum.connection.number());

@@ -1,4 +1,5 @@
 //! What is found in a capture, packet by packet, and the sums of it.
+use super::object::Object;
 use super::reading::Taker;
 use super::words::{self, Said};
 use crate::args::Filter;
@@ -134,6 +135,10 @@ pub trait Form {
     fn opened(&mut self, place: &Place<'_>, packet: &Packet<'_>);
     fn unopened(&mut self, place: &Place<'_>, packet: &PacketRef<'_>, why: Unopened);
     fn rest(&mut self, place: &Place<'_>, offset: usize, why: Rest);
+    /// What else is known of a connection: when that was, its name, and its members. Only traces have such.
+    fn note(&mut self, connection: &Connection, time: u64, name: &str, fill: &dyn Fn(&mut Object<'_>)) {
+        let _ = (connection, time, name, fill);
+    }
     fn connection(&mut self, sum: &Sum<'_>);
     fn end(&mut self, whole: &Whole<'_>);
 }
@@ -155,6 +160,16 @@ pub struct Report<'a> {
 impl<'a> Report<'a> {
     pub fn new(filter: &'a Filter, forms: Vec<Box<dyn Form + 'a>>) -> Self {
         Report { filter, forms, begun: None, parts: Vec::new(), tallies: HashMap::new() }
+    }
+
+    /// Says when a datagram was captured, if what is found in it is passed on to this sink.
+    pub fn begin_at(&mut self, time: u64) {
+        self.begun.get_or_insert(time);
+    }
+
+    /// Adds to the traces what else is known of a connection, before it is summed up.
+    pub fn note(&mut self, connection: &Connection, time: u64, name: &str, fill: &dyn Fn(&mut Object<'_>)) {
+        self.forms.iter_mut().for_each(|form| form.note(connection, time, name, fill));
     }
 
     fn place<'p>(&self, owner: Option<(&'p Connection, Side)>, datagram: &'p Datagram<'p>, index: u64) -> Place<'p> {
@@ -222,7 +237,7 @@ impl Taker for Report<'_> {
     }
 
     fn datagram(&mut self, datagram: &Datagram<'_>, follower: &mut Follower) {
-        self.begun.get_or_insert(datagram.time);
+        self.begin_at(datagram.time);
         follower.take(datagram, self);
     }
 

@@ -38,23 +38,28 @@ impl<'s> Json<'s> {
 
     fn finding(&mut self, whole: &Whole<'_>, finding: &Finding) {
         self.write("finding", |object| {
-            object.word("rule", finding.rule.name);
-            cite(object, finding.rule.level, finding.section);
-            object.number("record", finding.record);
             object.plain("time", format_args!("{:#}", Seconds(words::after(whole.begun, finding.time))));
             object.number("connection", finding.connection as u64);
-            object.word("sender", words::side_name(finding.sender));
-            object.word("type", words::kind_name(finding.packet));
-            finding.number.into_iter().for_each(|number| object.number("number", number));
-            object.number("offset_in_datagram", finding.offset as u64);
-            finding.payload_offset.into_iter().for_each(|at| object.number("offset_in_payload", at as u64));
-            object.word("seen", &finding.seen);
-            object.word("expected", &finding.expected);
-            object.number("count", finding.count);
-            object.number("last_record", finding.last_record);
-            whole.reason(finding).into_iter().for_each(|reason| object.word("allowed", reason));
+            members(object, finding, whole.reason(finding));
         });
     }
+}
+
+/// The members of a finding that a trace of its connection has too.
+pub fn members(object: &mut Object<'_>, finding: &Finding, reason: Option<&str>) {
+    object.word("rule", finding.rule.name);
+    cite(object, finding.rule.level, finding.section);
+    object.number("record", finding.record);
+    object.word("sender", words::side_name(finding.sender));
+    object.word("type", words::kind_name(finding.packet));
+    finding.number.into_iter().for_each(|number| object.number("number", number));
+    object.number("offset_in_datagram", finding.offset as u64);
+    finding.payload_offset.into_iter().for_each(|at| object.number("offset_in_payload", at as u64));
+    object.word("seen", &finding.seen);
+    object.word("expected", &finding.expected);
+    object.number("count", finding.count);
+    object.number("last_record", finding.last_record);
+    reason.into_iter().for_each(|reason| object.word("allowed", reason));
 }
 
 fn cite(object: &mut Object<'_>, level: Level, section: Section) {

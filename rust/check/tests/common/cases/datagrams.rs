@@ -46,6 +46,16 @@ pub fn all() -> Vec<Case> {
             |talk| amplified(talk, 1200),
         ),
         broken(
+            ("path-amplification", "1201", "9.3"),
+            "After a datagram of 400 bytes from another port the server sends 1201 bytes there.",
+            |talk| moved(talk, 1201),
+        ),
+        lawful(
+            ("path-amplification", "1200", "9.3"),
+            "After a datagram of 400 bytes from another port the server sends 1200 bytes there.",
+            |talk| moved(talk, 1200),
+        ),
+        broken(
             ("payload-size", "beyond", "18.2"),
             "The client's max_udp_payload_size is 1321, and the server sends a datagram of 1322 bytes.",
             |talk| sized(talk, 1300 + AROUND_SHORT - 1),
@@ -95,6 +105,19 @@ fn amplified(talk: &mut Talk, size: usize) -> Spot {
     talk.made.time += 1_000_000_000;
     talk.made.first_dcid = None;
     talk.send(Client, Initial, &padded(&ack(0), 1200));
+    spot
+}
+
+// The client moves, and the server sends a challenge in a datagram of this size, which is answered a second later.
+fn moved(talk: &mut Talk, size: usize) -> Spot {
+    // The bytes around the client's payload, whose id has one more.
+    let around = AROUND_SHORT as usize;
+    talk.handshake().made.addresses[0].set_port(5);
+    talk.short(Client, &padded(PING, 400 - around - 1));
+    let spot = send(talk, Server, Short, &padded(b"\x1a12345678", size - around), At::Datagram(0));
+    talk.made.time += 1_000_000_000;
+    talk.short(Client, &padded(b"\x1b12345678", 1200));
+    talk.later();
     spot
 }
 

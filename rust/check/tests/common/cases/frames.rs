@@ -215,6 +215,44 @@ fn paths() -> Vec<Case> {
                 plant(talk, Client, &padded(RESPONSE, FULL), 0..9)
             },
         ),
+        broken(("response-twice", "packets", "8.2.2"), "The client answers a PATH_CHALLENGE in two packets.", |talk| {
+            talk.handshake().short(Server, &padded(CHALLENGE, 1200)).short(Client, &padded(RESPONSE, FULL));
+            plant(talk, Client, &padded(RESPONSE, FULL), 0..9)
+        }),
+        lawful(
+            ("response-twice", "copy", "8.2.2"),
+            "The network delivers a packet with a PATH_RESPONSE twice.",
+            |talk| {
+                talk.handshake().short(Server, &padded(CHALLENGE, 1200));
+                let spot = send(talk, Client, Short, &padded(RESPONSE, FULL), At::Payload(0..9));
+                let copy = talk.all.last().unwrap().clone();
+                talk.all.push(copy);
+                talk.later();
+                spot
+            },
+        ),
+        broken(
+            ("response-path", "old-address", "8.2.2"),
+            "The client sends a PATH_CHALLENGE from another port, and the server's PATH_RESPONSE goes to the first one.",
+            |talk| moved(talk, false),
+        ),
+        lawful(
+            ("response-path", "new-address", "8.2.2"),
+            "The client sends a PATH_CHALLENGE from another port, to which the server's PATH_RESPONSE goes.",
+            |talk| moved(talk, true),
+        ),
+        broken(("challenge-data", "same", "8.2.1"), "Two PATH_CHALLENGEs of the client have the same data.", |talk| {
+            talk.handshake().short(Client, &padded(CHALLENGE, FULL));
+            plant(talk, Client, &padded(CHALLENGE, FULL), 0..9)
+        }),
+        lawful(
+            ("challenge-data", "of-peer", "8.2.1"),
+            "The client's PATH_CHALLENGE has the data of the server's.",
+            |talk| {
+                talk.handshake().short(Server, &padded(CHALLENGE, 1200));
+                plant(talk, Client, &padded(CHALLENGE, FULL), 0..9)
+            },
+        ),
         broken(("path-size", "challenge", "8.2.1"), "A PATH_CHALLENGE is in a datagram of 1199 bytes.", |talk| {
             challenge(talk, FULL - 1)
         }),
@@ -231,6 +269,20 @@ fn paths() -> Vec<Case> {
 // NEW_CONNECTION_ID with an id of so many bytes.
 fn new_id(sequence: u8, retire_prior_to: u8, len: u8) -> Vec<u8> {
     [&[0x18, sequence, retire_prior_to, len][..], &vec![0xcc; len.into()], &[0xdd; 16]].concat()
+}
+
+// The client's challenge from another port, and the server's answer to that or to the first one.
+fn moved(talk: &mut Talk, is_answered_there: bool) -> Spot {
+    let first = talk.handshake().made.addresses[0];
+    talk.made.addresses[0].set_port(5);
+    talk.short(Client, &padded(CHALLENGE, FULL));
+    if !is_answered_there {
+        talk.made.addresses[0] = first;
+    }
+    let spot = send(talk, Server, Short, &padded(RESPONSE, 1200), At::Payload(0..9));
+    talk.made.addresses[0] = first;
+    talk.later();
+    spot
 }
 
 // The client's challenge in a payload of so many bytes, which the server answers.

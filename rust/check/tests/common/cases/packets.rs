@@ -93,6 +93,27 @@ fn ids() -> Vec<Case> {
             },
         ),
         broken(
+            ("source-id", "handshake", "7.2"),
+            "The client's Handshake packet has another Source Connection ID than its Initial packet.",
+            |talk| {
+                let hello = talk.client_hello();
+                talk.send(Client, Initial, &hello).server_flight().client_flight();
+                let id = std::mem::replace(&mut talk.made.ids[0], b"else".to_vec());
+                let spot = send(talk, Client, Handshake, &ack(0), At::Datagram(DESTINATION + 5 + 1));
+                talk.made.ids[0] = id;
+                talk.confirm().later();
+                spot
+            },
+        ),
+        lawful(
+            ("source-id", "retry", "7.2"),
+            "The server's Initial packet has another Source Connection ID than its Retry.",
+            |talk| {
+                retried(talk, b"retried", b"token", At::Packet);
+                Spot { index: 3, sender: Server, kind: Initial, number: Some(0), at: At::Datagram(SOURCE) }
+            },
+        ),
+        broken(
             ("discarded-keys", "late", "4.9.1"),
             "The client sends an Initial packet two seconds after its first Handshake packet.",
             |talk| {

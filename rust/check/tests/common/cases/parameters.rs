@@ -5,7 +5,7 @@ use crate::talk::Talk;
 use quic_wire::{ConnectionId, Side};
 
 pub fn all() -> Vec<Case> {
-    [values(), ids(), after_retry()].into_iter().flatten().collect()
+    [values(), versions(), ids(), after_retry()].into_iter().flatten().collect()
 }
 
 // Entries of the client's list: id, length, value (RFC 9000, section 18).
@@ -31,6 +31,43 @@ fn values() -> Vec<Case> {
             with(talk, &[58, 2, 1, 2])
         }),
     ]
+}
+
+// version_information (RFC 9368, section 3): a chosen version, then those that are available.
+fn versions() -> Vec<Case> {
+    const BOTH: &[u8] = &[0, 0, 0, 1, 0x6b, 0x33, 0x43, 0xcf, 0, 0, 0, 1];
+    let of = |cases: Vec<Case>| cases.into_iter().map(|case| case.of(9368));
+    let information = vec![
+        broken(("version-information", "chosen-0", "3"), "The client's chosen version is 0.", |talk| {
+            informed(talk, Client, &[0, 0, 0, 0, 0, 0, 0, 1])
+        }),
+        broken(("version-information", "five-bytes", "3"), "The client's version_information has 5 bytes.", |talk| {
+            informed(talk, Client, &BOTH[..5])
+        }),
+        lawful(
+            ("version-information", "both", "3"),
+            "The client's chosen version is 1, and versions 2 and 1 are available.",
+            |talk| informed(talk, Client, BOTH),
+        ),
+    ];
+    let chosen = vec![
+        broken(
+            ("chosen-version", "client", "4"),
+            "The client's packet has version 1, and its chosen version is 2.",
+            |talk| informed(talk, Client, &BOTH[4..]),
+        ),
+        broken(
+            ("chosen-version", "server", "4"),
+            "The server's packet has version 1, and its chosen version is 2.",
+            |talk| informed(talk, Server, &BOTH[4..]),
+        ),
+        lawful(
+            ("chosen-version", "available", "4"),
+            "The server's packet has version 1, which is its chosen version, and version 2 is available, too.",
+            |talk| informed(talk, Server, BOTH),
+        ),
+    ];
+    of(information).chain(of(chosen)).collect()
 }
 
 fn ids() -> Vec<Case> {
@@ -117,6 +154,12 @@ fn whole(talk: &mut Talk, side: Side) -> Spot {
 fn with(talk: &mut Talk, more: &[u8]) -> Spot {
     talk.more[Client as usize] = more.to_vec();
     whole(talk, Client)
+}
+
+// With version_information of a side.
+fn informed(talk: &mut Talk, side: Side, value: &[u8]) -> Spot {
+    talk.more[side as usize] = [&[0x11, value.len() as u8], value].concat();
+    whole(talk, side)
 }
 
 // With a Retry, after which the server sends this retry_source_connection_id.

@@ -1,14 +1,14 @@
 //! Of the rules of src/rules/streams.rs. Each side permits 1000 bytes on all streams, 500 on each, and four streams of
 //! each type.
-use super::{Case, Spot, broken, lawful, plant};
-use crate::made::{Client, Server};
+use super::{At, Case, Spot, broken, last, lawful, plant, swap_last};
+use crate::made::{Client, Server, Short};
 use crate::talk::Talk;
 
 // The last two bytes of stream 0 at offset 0, which end it.
 const FIN: &[u8] = &[0x0b, 0, 2, 0x61, 0x62];
 
 pub fn all() -> Vec<Case> {
-    [by_ids(), final_size(), limits()].into_iter().flatten().collect()
+    [by_ids(), final_size(), resets(), limits()].into_iter().flatten().collect()
 }
 
 fn by_ids() -> Vec<Case> {
@@ -88,6 +88,41 @@ fn final_size() -> Vec<Case> {
             |talk| {
                 talk.handshake().short(Client, FIN);
                 plant(talk, Client, &[FIN, &[4, 0, 0, 2]].concat(), 5..9)
+            },
+        ),
+    ]
+}
+
+fn resets() -> Vec<Case> {
+    // A byte of stream 0, and RESET_STREAM with that final size.
+    const DATA: &[u8] = &[0x0a, 0, 1, 0x61];
+    const RESET: &[u8] = &[4, 0, 0, 1];
+    vec![
+        broken(
+            ("after-reset", "stream", "3.3"),
+            "The client sends data of a stream again in a packet after that with RESET_STREAM.",
+            |talk| {
+                talk.handshake().short(Client, DATA).short(Client, RESET);
+                plant(talk, Client, DATA, 0..4)
+            },
+        ),
+        broken(
+            ("after-reset", "blocked", "3.3"),
+            "The client sends STREAM_DATA_BLOCKED in a packet after that with RESET_STREAM.",
+            |talk| {
+                talk.handshake().short(Client, RESET);
+                plant(talk, Client, &[0x15, 0, 1], 0..3)
+            },
+        ),
+        lawful(
+            ("after-reset", "reordered", "3.3"),
+            "A packet with data of a stream comes after one with a greater number that has RESET_STREAM.",
+            |talk| {
+                talk.handshake().short(Client, DATA).short(Client, RESET);
+                swap_last(talk);
+                let spot = last(talk, Client, Short, 1, At::Payload(0..4));
+                talk.later();
+                spot
             },
         ),
     ]

@@ -167,8 +167,13 @@ impl Checker {
 
     /// Takes the next datagram of the capture.
     pub fn take(&mut self, datagram: &Datagram<'_>, follower: &mut Follower) {
-        self.facts.take(datagram);
+        self.note(datagram);
         follower.take(datagram, self);
+    }
+
+    /// Notes the datagram that comes next, for those who pass the follower's events on to more than this sink.
+    pub fn note(&mut self, datagram: &Datagram<'_>) {
+        self.facts.take(datagram);
     }
 
     /// Ends the capture, and returns what was found in it.

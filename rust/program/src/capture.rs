@@ -1,10 +1,10 @@
 //! The mode `capture`: the packets of captures, and the frames of those that there are keys for.
-mod json;
+pub mod json;
 pub mod keys;
 pub mod object;
 mod qlog;
 pub mod reading;
-mod report;
+pub mod report;
 pub mod screen;
 mod source;
 mod text;

@@ -73,8 +73,8 @@ impl Packet<'_> {
         })
     }
 
-    // Whether RFC 9000 rejects something in it.
-    fn is_rejected(&self) -> bool {
+    /// Whether RFC 9000 rejects something in it.
+    pub fn is_rejected(&self) -> bool {
         self.parts.iter().any(|part| match part {
             Part::Frame { forbidden, .. } => forbidden.is_some(),
             Part::Invalid(_) | Part::InvalidParameters(_) => true,
@@ -157,6 +157,16 @@ impl<'a> Report<'a> {
         Report { filter, forms, begun: None, parts: Vec::new(), tallies: HashMap::new() }
     }
 
+    /// Notes the datagram that comes next, for those who pass on its events themselves.
+    pub fn note(&mut self, datagram: &Datagram<'_>) {
+        self.begun.get_or_insert(datagram.time);
+    }
+
+    /// When the capture begins, in nanoseconds since 1970; `None` until its first datagram.
+    pub fn begun(&self) -> Option<u64> {
+        self.begun
+    }
+
     fn place<'p>(&self, owner: Option<(&'p Connection, Side)>, datagram: &'p Datagram<'p>, index: u64) -> Place<'p> {
         let begun = self.begun.unwrap_or(datagram.time);
         Place { datagram, index, owner, time: words::after(begun, datagram.time) }
@@ -222,7 +232,7 @@ impl Taker for Report<'_> {
     }
 
     fn datagram(&mut self, datagram: &Datagram<'_>, follower: &mut Follower) {
-        self.begun.get_or_insert(datagram.time);
+        self.note(datagram);
         follower.take(datagram, self);
     }
 

@@ -14,6 +14,8 @@ export const DEFAULT_STATE = {
   // opened with, by their index; and the id from which keys of Initial packets follow.
   lines: "auto", at: 0, compare: false, other: "", opened: {}, firstId: "",
 };
+// What a link to captures begins with. It has the filter, and nothing of a capture.
+const CAPTURES = "captures";
 // Separates the digits of two inputs, and of what a packet is opened with.
 const BETWEEN = ".";
 
@@ -123,3 +125,12 @@ export function stateOf(fragment) {
   state.firstId = words.get("first") ?? "";
   return state;
 }
+
+// Whether a link is to captures, not to bytes.
+export const isOfCaptures = (fragment) => fragment === CAPTURES || fragment.startsWith(`${CAPTURES}&`);
+
+export const captureFragment = (filter) => (
+  filter === "" ? CAPTURES : `${CAPTURES}&filter=${encodeURIComponent(filter)}`);
+
+// The filter of a link to captures.
+export const filterOf = (fragment) => new URLSearchParams(fragment).get("filter") ?? "";

@@ -242,16 +242,21 @@ fn with_held<T>(offset: u32, limit: u32, act: impl FnOnce(&[u8], &[u32], &mut Ve
     })
 }
 
-/// The frames: where reading ended, 1 if the type at which it failed is known, that type, and of each frame where it
-/// begins and its type. The words say why reading failed.
+/// The frames, in numbers of 4 bytes: where reading ended; 1 if the type at which it failed is known, and the lower and
+/// the upper half of that type; and of each frame where it begins and its type, which is below 2^16. The words say why
+/// reading failed.
 #[unsafe(no_mangle)]
 pub extern "C" fn bytes_frames(flags: u32) {
     with_held(0, u32::MAX, |held, _, output, words| {
         let (frames, end, ending) = bytes::frames(held, choices(flags));
         *words = ending.map_or(String::new(), |ending| ending.reason.into());
         let ty = ending.and_then(|ending| ending.ty);
-        let head = [end as u64, ty.is_some().into(), ty.unwrap_or_default()];
-        put(output, head.into_iter().chain(frames.into_iter().flat_map(|(begin, ty)| [begin as u64, ty])));
+        let halves = [ty.unwrap_or_default() as u32, (ty.unwrap_or_default() >> 32) as u32];
+        output.clear();
+        output.reserve_exact(8 * frames.len() + 16);
+        let mut put = |numbers: &[u32]| output.extend(numbers.iter().copied().flat_map(u32::to_le_bytes));
+        put(&[end as u32, ty.is_some().into(), halves[0], halves[1]]);
+        frames.into_iter().for_each(|(begin, ty)| put(&[begin as u32, ty as u32]));
     });
 }
 

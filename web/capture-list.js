@@ -111,7 +111,10 @@ export class CaptureList {
       return line;
     }
     const texts = textsOf(row);
-    line.append(...COLUMNS.map(([name]) => element("span", name, `${texts[name] ?? ""}`, { title: `${texts[name] ?? ""}` })));
+    line.append(...COLUMNS.map(([name]) => {
+      const text = `${texts[name] ?? ""}`;
+      return element("span", name, text, { title: text });
+    }));
     line.classList.toggle("lost", row.lost !== undefined && row.acknowledged_after === undefined);
     line.classList.toggle("rejected", row.rejected || row.broken.length > 0);
     line.classList.toggle("closed", !row.opened);

@@ -41,8 +41,11 @@ export class Captures {
   // |byId| finds elements; |worker| makes a worker; |libraries| read the bytes that are shown; |columns| says how many
   // bytes are in a row.
   constructor(byId, { module, worker, libraries, columns }) {
-    Object.assign(this, { byId, module, makeWorker: worker, columns, worker: null, file: null, keyLogs: [], summary: null });
-    const boxes = { list: byId("packets"), head: byId("packets-head"), filter: byId("filter"), note: byId("filter-note") };
+    Object.assign(this, { byId, module, makeWorker: worker, columns });
+    Object.assign(this, { worker: null, file: null, keyLogs: [], summary: null });
+    const boxes = {
+      list: byId("packets"), head: byId("packets-head"), filter: byId("filter"), note: byId("filter-note"),
+    };
     this.list = new CaptureList(boxes, (type, message) => this.ask(type, message), ({ index }) => this.open(index));
     this.timeline = new Timeline(byId("timeline"), {
       choose: (index) => this.list.goTo(index), spot: (text) => { byId("timeline-spot").textContent = text; },
@@ -76,7 +79,8 @@ export class Captures {
     }
     this.worker = this.makeWorker();
     this.worker.addEventListener("message", ({ data: { type, ...message } }) => this.receive(type, message));
-    this.worker.addEventListener("error", (event) => this.failed({ text: event.message ?? "the worker doesn’t start" }));
+    const failed = ({ message = "the worker doesn’t start" }) => this.failed({ text: message });
+    this.worker.addEventListener("error", failed);
     this.ask("start", { module: this.module });
   }
 
@@ -86,10 +90,11 @@ export class Captures {
 
   receive(type, message) {
     const takers = {
-      progress: () => this.progress(message), ready: () => this.ready(message), failed: () => this.failed(message),
-      filtered: () => this.list.filtered(message), rows: () => this.list.take(message), cards: () => this.cards(message),
-      position: () => this.list.found(message), points: () => this.points(message), saved: () => this.saved(message),
-      detail: () => this.detail(message), cancelled: () => this.cancelled(),
+      progress: () => this.progress(message), ready: () => this.ready(message),
+      failed: () => this.failed(message), filtered: () => this.list.filtered(message),
+      rows: () => this.list.take(message), position: () => this.list.found(message),
+      cards: () => this.cards(message), points: () => this.points(message), detail: () => this.detail(message),
+      saved: () => this.saved(message), cancelled: () => this.cancelled(),
     };
     takers[type]();
   }
@@ -228,12 +233,14 @@ export class Captures {
     this.byId("connections").replaceChildren();
     this.cardsShown = 0;
     this.askCards();
-    showFindings(this.byId("findings"), this.byId("found-title"), summary.findings, (index) => this.list.goTo(index));
+    const go = (index) => this.list.goTo(index);
+    showFindings(this.byId("findings"), this.byId("found-title"), summary.findings, go);
     this.list.apply(this.list.filter.value);
     this.state = "ready";
   }
 
-  wholeText({ packets, further_packets: further, connections, secrets, capture, cut_off: isCut }, fault, spent, isStopped) {
+  wholeText(summary, fault, spent, isStopped) {
+    const { packets, further_packets: further, connections, secrets, capture, cut_off: isCut } = summary;
     const unopened = capture.unopened.map(({ reason, count: one }) => `${one} not opened: ${reason}`);
     return `${[
       `${this.file.name}, ${this.keysText()}`,
@@ -252,7 +259,8 @@ export class Captures {
   cards({ list }) {
     this.cardsShown += list.length;
     addCards(this.byId("connections"), list, {
-      filter: (number) => this.list.apply(`c:${number}`), picture: (number) => this.ask("points", { connection: number }),
+      filter: (number) => this.list.apply(`c:${number}`),
+      picture: (number) => this.ask("points", { connection: number }),
     });
     const more = moreText(this.cardsShown, this.summary.connections, this.summary.further_connections);
     this.byId("more-text").textContent = more;

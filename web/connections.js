@@ -37,7 +37,8 @@ function parametersOf(lists) {
 }
 
 // What is known of a side.
-function sideText(name, { first_address: first, last_address: last, opened, lost, lost_but_acknowledged: late, unopened }) {
+function sideText(name, side) {
+  const { first_address: first, last_address: last, opened, lost, lost_but_acknowledged: late, unopened } = side;
   const closed = unopened.reduce((sum, { count: one }) => sum + one, 0);
   const why = unopened.map(({ reason, count: one }) => `${one}: ${reason}`).join("; ");
   return [
@@ -65,7 +66,8 @@ function card(connection, on) {
   for (const side of SIDES) {
     box.append(element("p", "", sideText(side, connection[side])));
   }
-  box.append(element("p", "", `first destination id ${id || "empty"}${retry === undefined ? "" : `, after a Retry ${retry}`}`));
+  const retried = retry === undefined ? "" : `, after a Retry ${retry}`;
+  box.append(element("p", "", `first destination id ${id || "empty"}${retried}`));
   box.append(element("p", "ended", `${end[0].toUpperCase()}${end.slice(1)}.`));
   const buttons = [["Its packets", () => on.filter(number)], ["Packets over time", () => on.picture(number)]];
   const row = element("p", "card-buttons");

@@ -44,7 +44,8 @@ export class DatagramView {
     boxes.note.textContent = packetText(chosen);
     const broken = findings.filter(({ row }) => packets.some((packet) => packet.index === row));
     boxes.broken.replaceChildren(...broken.map((one) => element("li", "fault",
-      `Byte ${one.offset_in_datagram}: ${one.seen}. Expected: ${one.expected}. RFC ${one.rfc}, section ${one.section}`)));
+      `Byte ${one.offset_in_datagram}: ${one.seen}. Expected: ${one.expected}. RFC ${one.rfc}, section ${one.section}`,
+    )));
     boxes.views.hidden = datagram === undefined;
     this.packets = packets;
     this.columns = columns;

@@ -15,7 +15,10 @@ const elementOf = (id) => document.getElementById(id);
 // The module's bytes: those in the page, or else the file beside it.
 async function moduleBytes() {
   const inlined = elementOf("module");
-  return inlined ? fromBase64(inlined.textContent) : new Uint8Array(await (await fetch("quic_wire_page.wasm")).arrayBuffer());
+  if (inlined) {
+    return fromBase64(inlined.textContent);
+  }
+  return new Uint8Array(await (await fetch("quic_wire_page.wasm")).arrayBuffer());
 }
 
 // The worker: its script is in the page, or beside it.

@@ -9,6 +9,8 @@ const NEAR = 18;
 // How far a drag must go to enlarge a part.
 const LEAST_DRAG = 8;
 const LOST = [2, 3];
+// The colours, by their names in the style sheet.
+const COLORS = { ink: "--ink", line: "--line", client: "--accent", server: "--good", lost: "--bad" };
 export const STATES = ["not acknowledged", "acknowledged", "lost", "acknowledged, had counted as lost"];
 
 // Round numbers between two others, for an axis.
@@ -56,7 +58,8 @@ export class Timeline {
       least = Math.min(least, this.points[at + 1]);
       most = Math.max(most, this.points[at + 1]);
     }
-    this.view = this.count === 0 ? [0, 1, 0, 1] : [begin, Math.max(end, begin + 1e-6), least, Math.max(most, least + 1)];
+    const ends = [begin, Math.max(end, begin + 1e-6), least, Math.max(most, least + 1)];
+    this.view = this.count === 0 ? [0, 1, 0, 1] : ends;
     this.draw();
   }
 
@@ -83,9 +86,8 @@ export class Timeline {
     const context = canvas.getContext("2d");
     context.scale(scale, scale);
     const style = getComputedStyle(canvas);
-    this.colors = ["--ink", "--line", "--accent", "--good", "--bad"].map((name) => style.getPropertyValue(name));
-    this.colors = Object.fromEntries(["ink", "line", "client", "server", "lost"].map((name, at) => (
-      [name, this.resolved(this.colors[at])])));
+    this.colors = Object.fromEntries(Object.entries(COLORS).map(([name, property]) => (
+      [name, this.resolved(style.getPropertyValue(property))])));
     context.font = `12px ${style.fontFamily}`;
     this.axes(context, width, height);
     context.save();
@@ -149,7 +151,8 @@ export class Timeline {
   marks(context, height) {
     context.strokeStyle = this.colors.ink;
     if (this.drag && this.drag.to !== this.drag.from) {
-      context.strokeRect(this.drag.from, MARGIN.top, this.drag.to - this.drag.from, height - MARGIN.top - MARGIN.bottom);
+      const { from, to } = this.drag;
+      context.strokeRect(from, MARGIN.top, to - from, height - MARGIN.top - MARGIN.bottom);
     }
     if (this.at >= 0) {
       const [x, y] = this.place(this.points[POINT * this.at], this.points[POINT * this.at + 1]);

@@ -374,9 +374,9 @@ impl Engine {
     }
 
     /// The packets of a connection that were opened, for a picture: of each the time in seconds after the capture's
-    /// first datagram, the number, 0 for the client and 1 for the server, its state (0 not acknowledged, 1 acknowledged,
-    /// 2 lost, 3 acknowledged though it counted as lost), its number space (0 to 2) and its index, as IEEE 754 numbers
-    /// of 8 bytes, the lowest byte first.
+    /// first datagram, the number, 0 for the client and 1 for the server, its state (0 not acknowledged,
+    /// 1 acknowledged, 2 lost, 3 acknowledged though it counted as lost), its number space (0 to 2) and its index, as
+    /// IEEE 754 numbers of 8 bytes, the lowest byte first.
     pub fn points(&self, connection: usize) -> Vec<u8> {
         let table = self.table.borrow();
         let of_it = |(_, row): &(usize, &Row)| {

@@ -212,8 +212,8 @@ pub extern "C" fn capture_points(connection: u32) {
 
 // ---- bytes
 
-// How bytes are read: 1 as RFC 9000, 2 types in their shortest encoding, 4 the fixed bit may be clear; and 256 times the
-// length of ids.
+// How bytes are read: 1 as RFC 9000, 2 types in their shortest encoding, 4 the fixed bit may be clear; and 256 times
+// the length of ids.
 fn choices(flags: u32) -> Choices {
     let has = |bit| flags & bit != 0;
     Choices { rfc: has(1), short_types: has(2), grease: has(4), id_len: (flags >> 8) as usize }
@@ -229,7 +229,8 @@ pub extern "C" fn bytes_hold() {
 #[unsafe(no_mangle)]
 pub extern "C" fn bytes_versions() {
     with(|state| {
-        state.versions = state.input.chunks_exact(4).filter_map(|one| Some(u32::from_le_bytes(*one.first_chunk()?))).collect();
+        let versions = state.input.chunks_exact(4).filter_map(|one| one.first_chunk());
+        state.versions = versions.map(|bytes| u32::from_le_bytes(*bytes)).collect();
     });
 }
 
@@ -338,8 +339,8 @@ pub extern "C" fn bytes_fields(of: u32, offset: u32, limit: u32, flags: u32, id:
     });
 }
 
-/// Whether a client (0) or a server (1) accepts the list of transport parameters: 1, or 0, words why not, and the offset
-/// of the entry that is rejected.
+/// Whether a client (0) or a server (1) accepts the list of transport parameters: 1, or 0, words why not, and the
+/// offset of the entry that is rejected.
 #[unsafe(no_mangle)]
 pub extern "C" fn bytes_parameters(side: u32, flags: u32) -> u32 {
     let side = if side == 0 { Side::Client } else { Side::Server };

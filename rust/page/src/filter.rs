@@ -53,7 +53,7 @@ impl Filter {
         let mut text = String::from("all packets");
         for (place, (is_wanted, what)) in self.0.iter().enumerate() {
             let before = if place == 0 { " " } else { ", " };
-            let not = if *is_wanted { "" } else { "not " };
+            let not = if *is_wanted { "" } else { "except those " };
             let _ = write!(text, "{before}{not}{}", explained(what));
         }
         text
@@ -187,8 +187,8 @@ mod tests {
     #[test]
     fn it_says_what_it_lets_through() {
         let filter = Filter::parse("client -lost pn:3-5 \"stream 0\"").unwrap();
-        let said = "all packets of the client, not that counted as lost, with the number 3 to 5, with “stream 0” in the text";
-        assert_eq!(filter.explain(), said);
+        let numbers = "with the number 3 to 5, with “stream 0” in the text";
+        assert_eq!(filter.explain(), format!("all packets of the client, except those that counted as lost, {numbers}"));
     }
 
     #[test]

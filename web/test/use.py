@@ -62,6 +62,8 @@ def all_by_keyboard(browser, address):
     focus is visible."""
     browser.go(address)
     browser.run("document.activeElement.blur(); window.scrollTo(0, 0);")
+    browser.keys(TAB)
+    same(browser.run("return document.activeElement.id"), "door-bytes", "the doors come first")
     browser.keys(TAB, RIGHT)
     same(browser.run("return document.getElementById('form').elements.mode.value"), "datagram", "the mode by keys")
     browser.keys(TAB)

@@ -180,7 +180,8 @@ fn points_are_the_opened_packets() {
     let opened: Vec<_> = rows(&table).into_iter().filter(|row| row["opened"] == true).collect();
     assert_eq!(numbers.len(), 6 * opened.len());
     for (point, row) in numbers.chunks_exact(6).zip(&opened) {
-        assert_eq!((point[1] as u64, point[5] as u64), (row["number"].as_u64().unwrap(), row["index"].as_u64().unwrap()));
+        assert_eq!(Value::from(point[1] as u64), row["number"], "{row}");
+        assert_eq!(Value::from(point[5] as u64), row["index"], "{row}");
         assert_eq!(point[2] == 1.0, row["sender"] == "server", "{row}");
     }
     assert!(table.points(1).is_empty(), "another connection");

@@ -8,6 +8,9 @@ use quic_wire::Side;
 use quic_wire_page::bytes::{self, Choices, Of};
 use quic_wire_page::engine::{Engine, Purpose};
 
+const WORDS: [&str; 12] =
+    ["client", "-lost", "acked", "pn:0-9", "#1", "c:0", "type:initial", "stream", "\"a b\"", "broken", "\"", "-"];
+
 fn rounds(usual: usize) -> usize {
     std::env::var("ROUNDS").ok().and_then(|text| text.parse().ok()).unwrap_or(usual)
 }
@@ -27,8 +30,7 @@ fn change(random: &mut Random, bytes: &mut Vec<u8>) {
 
 // What a page asks about a capture.
 fn ask(engine: &mut Engine, random: &mut Random) {
-    let words = ["client", "-lost", "acked", "pn:0-9", "#1", "c:0", "type:initial", "stream", "\"a b\"", "broken", "\"", "-"];
-    let text: Vec<_> = (0..random.below(4)).map(|_| words[random.below(words.len())]).collect();
+    let text: Vec<_> = (0..random.below(4)).map(|_| WORDS[random.below(WORDS.len())]).collect();
     let _ = engine.filter(&text.join(" "));
     assert!(engine.shown() <= engine.count());
     let rows = objects(&engine.rows(0, engine.count()));

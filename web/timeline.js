@@ -22,7 +22,7 @@ export function ticksBetween(from, to, most = TICKS) {
   return Array.from({ length: Math.floor(to / step) - first + 1 }, (_, at) => (first + at) * step);
 }
 
-// A number of an axis, as short as it can be told from the next one.
+// A number of an axis, with as many digits as the next one needs to differ.
 function tickText(value, step) {
   return value.toFixed(Math.max(0, Math.min(9, Math.ceil(-Math.log10(step)))));
 }

@@ -10,6 +10,9 @@ import { Views } from "./views.js";
 
 // How many frames are shown under a packet in the tree.
 const MOST_INNER = 60;
+// How payloads are shown: frames of the ACK frequency extension may have been negotiated. What RFC 9000 rejects is in
+// the text of the packet.
+const PAYLOAD = { mode: "frames", quinn: true, strict: true };
 
 // What is said of a packet besides its bytes.
 function packetText(packet) {
@@ -59,7 +62,7 @@ export class DatagramView {
 
   showDatagram(bytes, chosen) {
     const idLength = chosen.id_len || Math.max(...this.packets.map(({ id_len: length }) => length));
-    this.reading = readBytes(this.library, bytes, { mode: "datagram", idLength, versions: VERSIONS, grease: true });
+    this.reading = readBytes(this.library, bytes, { mode: "datagram", idLength, versions: VERSIONS });
     for (const packet of this.packets) {
       const at = this.reading.indexAt(packet.packet_in_datagram[0]);
       if (packet.mask && packet.payload !== undefined && at >= 0) {
@@ -76,7 +79,7 @@ export class DatagramView {
 
   // The frames of a packet as lines of the tree.
   linesOf({ payload }) {
-    const reading = readBytes(this.payloadLibrary, fromHex(payload), { mode: "frames", strict: true });
+    const reading = readBytes(this.payloadLibrary, fromHex(payload), PAYLOAD);
     const lines = Array.from({ length: Math.min(reading.count, MOST_INNER) }, (_, inner) => {
       const { name, summary, begin, end } = reading.item(inner);
       return { name, value: summary, inner, place: `${begin}..${end}` };
@@ -96,7 +99,7 @@ export class DatagramView {
       return;
     }
     const bytes = fromHex(packet.payload);
-    this.payload = readBytes(this.payloadLibrary, bytes, { mode: "frames", strict: true });
+    this.payload = readBytes(this.payloadLibrary, bytes, PAYLOAD);
     boxes.payloadTitle.textContent = `Payload of ${packet.type} ${packet.number}, ${count(bytes.length, "byte")} `
       + "without protection";
     this.payloadViews.show(this.payload, this.columns);

@@ -4,8 +4,8 @@ import { FRAMES, REASONS } from "./formats.js";
 import { ITEM, LONG_FORM, OK } from "./layout.js";
 import { Module } from "./module.js";
 
-// Flags of how bytes are read.
-const [SHORT_TYPES, GREASED_BIT] = [2, 4];
+// Flags of how bytes are read: as RFC 9000, types in their shortest encoding, the fixed bit may be clear.
+const [RFC, SHORT_TYPES, GREASED_BIT] = [1, 2, 4];
 // What fields are asked of.
 const [FRAME, PACKET, ENTRY, VALUE] = [0, 1, 2, 3];
 const NO_LIMIT = 0xffffffff;
@@ -25,6 +25,11 @@ function reasonOf(about, text) {
     throw new Error(`the library said ${text} of a ${about}`);
   }
   return reason;
+}
+
+// The flags of choices. As RFC 9000 reads, a clear fixed bit is shown, since RFC 9287 allows it.
+function flagsOf({ quinn, strict, grease, idLength = 0 }) {
+  return (quinn ? 0 : RFC) + (strict ? SHORT_TYPES : 0) + (grease || !quinn ? GREASED_BIT : 0) + 256 * idLength;
 }
 
 // A list of numbers below 2^32 that grows.
@@ -79,8 +84,8 @@ export class Library {
 
   // The offsets where frames begin, then where the last one ends; their kinds; and the error that ended them, or null.
   // Consecutive PADDING frames are one.
-  readFrames(strict) {
-    this.calls.bytes_frames(strict ? SHORT_TYPES : 0);
+  readFrames(choices) {
+    this.calls.bytes_frames(flagsOf(choices));
     const found = new Uint32Array(this.module.bytes());
     const [end, hasType, lower, upper] = found;
     const why = this.module.words;
@@ -96,8 +101,10 @@ export class Library {
     return { count, begins, kinds, error: why === "" ? null : this.frameError(why, hasType, type) };
   }
 
-  frameError(why, hasType, type) {
-    return { reason: reasonOf("frame", why), type: hasType ? type : null };
+  // The words have the reason, and in a second line what RFC 9000 forbids, if quinn-proto accepts it.
+  frameError(words, hasType, type) {
+    const [why, note = ""] = words.split("\n");
+    return { reason: reasonOf("frame", why), note, type: hasType ? type : null };
   }
 
   // The frame that begins at |offset|: its kind, flags, how many bytes of data it has, and five numbers.
@@ -114,8 +121,8 @@ export class Library {
   }
 
   // The shortest payload with the same meaning, or the payload's invalid frame.
-  canonical() {
-    if (this.calls.bytes_shortest(0)) {
+  canonical(choices) {
+    if (this.calls.bytes_shortest(flagsOf(choices))) {
       return { bytes: new Uint8Array(this.module.bytes()), error: null };
     }
     return { bytes: null, error: this.frameError(this.module.words, ...this.module.numbers()) };
@@ -141,14 +148,15 @@ export class Library {
     return { reason, spans, end: offset + Number(end), inside: Number(inside), numbers: Number(numbers) };
   }
 
-  frameFields(offset) {
-    return this.fieldsAt(FRAME, offset);
+  // Rules of the RFC, and that types are in their shortest encoding, are checked as |choices| say, if there are any.
+  frameFields(offset, choices = { quinn: true }) {
+    return this.fieldsAt(FRAME, offset, { flags: flagsOf(choices) });
   }
 
   // The fixed bit isn't checked.
   packetFields(offset, choices) {
     this.speak(choices.versions);
-    return this.fieldsAt(PACKET, offset, { flags: this.headerFlags(choices) });
+    return this.fieldsAt(PACKET, offset, { flags: flagsOf(choices) });
   }
 
   entryFields(offset) {
@@ -162,8 +170,8 @@ export class Library {
   }
 
   // The fields of a parameter's value between these offsets.
-  valueFields(id, offset, limit) {
-    return this.fieldsAt(VALUE, offset, { limit, id });
+  valueFields(id, offset, limit, choices) {
+    return this.fieldsAt(VALUE, offset, { limit, id, flags: flagsOf(choices) });
   }
 
   // Sets the versions whose long headers are read.
@@ -175,14 +183,10 @@ export class Library {
     }
   }
 
-  headerFlags({ idLength, grease }) {
-    return (grease ? GREASED_BIT : 0) + 256 * idLength;
-  }
-
   // The packet that begins at |offset|: why there is none, or OK, and offsets in the datagram.
   packetAt(offset, choices) {
     this.speak(choices.versions);
-    const numbers = [...this.numbers("bytes_header", offset, this.headerFlags(choices))].map(Number);
+    const numbers = [...this.numbers("bytes_header", offset, flagsOf(choices))].map(Number);
     const [kind, version, first, dcidlen, scidlen, token, tokenlen, headerEnd, end] = numbers;
     const why = this.module.words;
     const dcid = offset + (first & LONG_FORM ? 6 : 1);
@@ -221,8 +225,8 @@ export class Library {
   }
 
   // Whether a side accepts a list: OK, or why not, and where the entry begins that is rejected.
-  readParams(side) {
-    if (this.calls.bytes_parameters(side === "server" ? 1 : 0, 0)) {
+  readParams(choices) {
+    if (this.calls.bytes_parameters(choices.side === "server" ? 1 : 0, flagsOf(choices))) {
       return { reason: OK, offset: 0 };
     }
     return { reason: reasonOf("list", this.module.words), offset: Number(this.module.numbers()[0]) };

@@ -254,7 +254,8 @@ export class Page {
     const { reading } = this;
     byId("views").hidden = reading === null || reading.bytes.length === 0;
     byId("keys").hidden = byId("views").hidden;
-    byId("text").hidden = reading === null;
+    // quic-show reads as quinn-proto does.
+    byId("text").hidden = reading === null || !this.chosen.quinn;
     showStatus(byId("status"), reading, this.found, this.form.at, {
       go: (place) => this.goTo(place), other: reading && otherMode(this.listLibrary, reading, this.chosen),
       change: (mode) => this.change(mode),
@@ -335,7 +336,7 @@ export class Page {
     const copy = plainButton("Copy it", () => this.copyShortest(copy, canonical.bytes));
     const size = `${count(canonical.bytes.length, "byte")}, ${fewer} fewer, with the same frames in the same order. `;
     byId("shortest-note").replaceChildren(size, copy);
-    const shortest = readBytes(this.besideLibrary, canonical.bytes, { mode: "frames", strict: false });
+    const shortest = readBytes(this.besideLibrary, canonical.bytes, { ...this.chosen, mode: "frames" });
     yield;
     this.shortest.show(shortest, columns(), true);
   }

@@ -7,6 +7,7 @@ use quic_wire::fields::{self, Fields};
 use quic_wire::frame::{Close, Frame, InvalidFrame, Iter, Rules};
 use quic_wire::transport_parameters::{Error, ReadOptions, TransportParameters};
 use quic_wire::{MAX_CID_SIZE, Side, varint};
+use quic_wire_cli::objects::broken_rule;
 
 /// Whose rules bytes are read by.
 #[derive(Clone, Copy, Debug, Default, PartialEq, Eq)]
@@ -28,6 +29,8 @@ pub struct Ending {
     pub reason: &'static str,
     /// The type of the frame.
     pub ty: Option<u64>,
+    /// What RFC 9000 forbids, if quinn-proto accepts the frame.
+    pub rule: Option<&'static str>,
 }
 
 impl Choices {
@@ -46,9 +49,20 @@ impl Choices {
     }
 }
 
+impl Ending {
+    fn without_type(reason: &'static str) -> Ending {
+        Ending { reason, ty: None, rule: None }
+    }
+
+    /// The reason and, in a second line, the rule.
+    pub fn words(self) -> String {
+        self.rule.map_or(self.reason.into(), |rule| format!("{}\n{rule}", self.reason))
+    }
+}
+
 impl From<&InvalidFrame> for Ending {
     fn from(invalid: &InvalidFrame) -> Ending {
-        Ending { reason: invalid.reason, ty: invalid.ty.map(u64::from) }
+        Ending { reason: invalid.reason, ty: invalid.ty.map(u64::from), rule: broken_rule(invalid) }
     }
 }
 
@@ -58,7 +72,7 @@ pub fn frames(payload: &[u8], choices: Choices) -> (Vec<(usize, u64)>, usize, Op
     let mut found: Vec<(usize, u64)> = Vec::new();
     let mut frames = match Iter::with_rules(payload, choices.rules()) {
         Ok(frames) => frames,
-        Err(empty) => return (found, 0, Some(Ending { reason: empty.reason.as_str(), ty: None })),
+        Err(empty) => return (found, 0, Some(Ending::without_type(empty.reason.as_str()))),
     };
     loop {
         let begin = frames.offset();
@@ -151,8 +165,8 @@ pub fn shortest(payload: &[u8], choices: Choices) -> Result<Vec<u8>, Ending> {
     match canonical_with(payload, choices.rules(), &mut out) {
         Ok(()) => Ok(out),
         Err(CanonError::Invalid(invalid)) => Err(Ending::from(&invalid)),
-        Err(CanonError::OutOfMemory) => Err(Ending { reason: "out of memory", ty: None }),
-        Err(CanonError::Empty) => Err(Ending { reason: "packet payload is empty", ty: None }),
+        Err(CanonError::OutOfMemory) => Err(Ending::without_type("out of memory")),
+        Err(CanonError::Empty) => Err(Ending::without_type("packet payload is empty")),
     }
 }
 

@@ -4,7 +4,7 @@
 //! returns beyond a number is at [`output`]: text in UTF-8, or numbers of 8 bytes, the lowest byte first. Words about
 //! an error are at [`words`].
 
-use crate::bytes::{self, Choices, Of};
+use crate::bytes::{self, Choices, Ending, Of};
 use crate::engine::{Engine, Purpose};
 use quic_wire::Side;
 use std::cell::RefCell;
@@ -245,12 +245,12 @@ fn with_held<T>(offset: u32, limit: u32, act: impl FnOnce(&[u8], &[u32], &mut Ve
 
 /// The frames, in numbers of 4 bytes: where reading ended; 1 if the type at which it failed is known, and the lower and
 /// the upper half of that type; and of each frame where it begins and its type, which is below 2^16. The words say why
-/// reading failed.
+/// reading failed and, in a second line, what RFC 9000 forbids if quinn-proto accepts it.
 #[unsafe(no_mangle)]
 pub extern "C" fn bytes_frames(flags: u32) {
     with_held(0, u32::MAX, |held, _, output, words| {
         let (frames, end, ending) = bytes::frames(held, choices(flags));
-        *words = ending.map_or(String::new(), |ending| ending.reason.into());
+        *words = ending.map_or(String::new(), Ending::words);
         let ty = ending.and_then(|ending| ending.ty);
         let halves = [ty.unwrap_or_default() as u32, (ty.unwrap_or_default() >> 32) as u32];
         output.clear();
@@ -287,7 +287,7 @@ pub extern "C" fn bytes_shortest(flags: u32) -> u32 {
             1
         }
         Err(ending) => {
-            *words = ending.reason.into();
+            *words = ending.words();
             put(output, [ending.ty.is_some().into(), ending.ty.unwrap_or_default()]);
             0
         }

@@ -12,5 +12,6 @@ pub use crate::capture::screen::Lines;
 pub use crate::capture::words;
 pub use crate::check::json::Json as CheckJson;
 pub use crate::check::{Form as CheckForm, Whole as Checked};
+pub use crate::fault::broken_rule;
 pub use crate::output::{Field, Value};
 pub use crate::params::all as parameter_fields;

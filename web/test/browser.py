@@ -181,7 +181,7 @@ class Firefox(Browser):
     PREFERENCES = [
         ("marionette.port", "0"), ("datareporting.policy.dataSubmissionEnabled", "false"),
         ("browser.download.folderList", "2"), ("browser.download.alwaysOpenPanel", "false"),
-        ("browser.helperApps.neverAsk.saveToDisk", '"image/svg+xml"'),
+        ("browser.helperApps.neverAsk.saveToDisk", '"image/svg+xml,application/x-ndjson"'),
         ("browser.download.always_ask_before_handling_new_types", "false"),
         ("network.dns.localDomains", f'"{ELSEWHERE}"'),
     ]

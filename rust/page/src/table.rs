@@ -238,7 +238,8 @@ impl Form for Filled {
     fn begin(&mut self, _: &OsStr) {}
 
     fn opened(&mut self, place: &Place<'_>, packet: &Packet<'_>) {
-        let (opened, table) = (packet.opened, &mut *self.0.borrow_mut());
+        let mut table = self.0.borrow_mut();
+        let (opened, table) = (packet.opened, &mut *table);
         let (payload, number) = (opened.payload(), opened.unprotected());
         let is_kept = table.kept.contains(&place.datagram.record);
         let inside = Inside {

@@ -21,7 +21,9 @@ fn change(random: &mut Random, bytes: &mut Vec<u8>) {
         match random.below(6) {
             0 => bytes.truncate(at),
             1 => bytes.insert(at, random.next() as u8),
-            2 if !bytes.is_empty() => drop(bytes.remove(at)),
+            2 if !bytes.is_empty() => {
+                bytes.remove(at);
+            }
             3 => bytes.extend_from_within(at..(at + random.below(2000)).min(bytes.len())),
             _ => bytes.iter_mut().skip(at).take(1 + random.below(4)).for_each(|byte| *byte ^= random.next() as u8),
         }

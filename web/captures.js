@@ -1,7 +1,7 @@
 // The page's second door: captures and key logs, which a worker reads, and what is found in them.
 
 import { CaptureList } from "./capture-list.js";
-import { addCards, CARDS, moreText } from "./connections.js";
+import { addCards, CARDS, moreText, unopenedTexts } from "./connections.js";
 import { DatagramView } from "./datagram.js";
 import { showFindings } from "./findings.js";
 import { saveBlob } from "./picture.js";
@@ -241,7 +241,7 @@ export class Captures {
 
   wholeText(summary, fault, spent, isStopped) {
     const { packets, further_packets: further, connections, secrets, capture, cut_off: isCut } = summary;
-    const unopened = capture.unopened.map(({ reason, count: one }) => `${one} not opened: ${reason}`);
+    const unopened = unopenedTexts(capture.unopened);
     return `${[
       `${this.file.name}, ${this.keysText()}`,
       `${count(packets, "packet")} of ${count(connections, "connection")}, read in ${(spent / 1000).toFixed(1)} s`,

@@ -8,6 +8,15 @@ export const CARDS = 100;
 
 const SIDES = ["client", "server"];
 
+// What never has keys isn't missed.
+const WITHOUT_KEYS = ["a version negotiation", "a Retry", "a stateless reset"];
+
+// Why packets weren't opened, each reason with its count.
+export function unopenedTexts(unopened) {
+  return unopened.filter(({ reason }) => !WITHOUT_KEYS.includes(reason))
+    .map(({ reason, count: one }) => `${one} not opened: ${reason}`);
+}
+
 // The value of a transport parameter as text.
 const valueText = (value) => (typeof value === "object" ? JSON.stringify(value) : `${value}`);
 
@@ -39,12 +48,10 @@ function parametersOf(lists) {
 // What is known of a side.
 function sideText(name, side) {
   const { first_address: first, last_address: last, opened, lost, lost_but_acknowledged: late, unopened } = side;
-  const closed = unopened.reduce((sum, { count: one }) => sum + one, 0);
-  const why = unopened.map(({ reason, count: one }) => `${one}: ${reason}`).join("; ");
   return [
     `${name} ${first ?? "not seen"}`, last === first ? "" : `last from ${last}`, `${opened} packets opened`,
     lost > 0 ? `${lost} lost${late > 0 ? `, of which ${late} were acknowledged later` : ""}` : "",
-    closed > 0 ? `${closed} not opened (${why})` : "",
+    ...unopenedTexts(unopened),
   ].filter(Boolean).join(", ");
 }
 

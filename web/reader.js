@@ -166,7 +166,8 @@ export class Reader {
     }
     const again = JSON.parse(module.text());
     // What was found later is only in the first table.
-    return { ...again, packets: again.packets.map((one, at) => ({ ...one, ...detail.packets[at] })) };
+    const found = new Map(detail.packets.map((packet) => [packet.index, packet]));
+    return { ...again, packets: again.packets.map((packet) => ({ ...packet, ...found.get(packet.index) })) };
   }
 
   // What quic-wire capture --json prints, as bytes in parts.

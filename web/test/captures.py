@@ -186,3 +186,14 @@ def rejected(browser, address, top):
     same(browser.run(STATUS), "Not read: README.md is neither a capture (pcap, pcapng, also compressed by gzip) nor a "
          "key log.", "a text")
     same(browser.run("return document.documentElement.dataset.capture"), "failed", "its state")
+
+
+def picture(browser, address, top, path):
+    """A picture of a capture with lost packets."""
+    browser.send("navigate", {"url": "about:blank"})
+    browser.go(f"{address}#captures")
+    choose(browser, [f"{top}/vectors/captures/ngtcp2-migration.{end}" for end in ("pcap", "keys")])
+    browser.until("return document.querySelectorAll('#packets [data-index]').length > 0", "rows")
+    browser.run("document.querySelectorAll('#packets [data-index]')[3].click()")
+    browser.until("return !document.getElementById('packet').hidden", "a packet")
+    browser.picture(path, 1280, 1500, "light")

@@ -166,7 +166,8 @@ def appearances(browser, host):
     silent(browser, "these looks")
 
 
-def take_pictures(browser, host, folder):
+def take_pictures(browser, host, words):
+    folder = words.pictures
     for name, width, height, scheme, example, target in PICTURES:
         browser.shape(width, height)
         browser.media(**{"prefers-color-scheme": scheme})
@@ -177,7 +178,10 @@ def take_pictures(browser, host, folder):
             browser.run("document.querySelector(arguments[0]).click()", target)
         browser.picture(f"{folder}/{name}", width, height, scheme)
     browser.unshape()
-    print(f"  {len(PICTURES)} pictures in {folder}")
+    browser.width(1280)
+    captures.picture(browser, f"{host}/index.html", words.top, f"{folder}/web-capture.png")
+    browser.unshape()
+    print(f"  {len(PICTURES) + 1} pictures in {folder}")
 
 
 def all_lists(browser, host, program, groups):
@@ -199,7 +203,7 @@ def try_browser(kind, words, host, groups):
         times(browser, host)
         all_lists(browser, host, words.quic_show, groups)
         if kind is Chromium and words.pictures:
-            take_pictures(browser, host, words.pictures)
+            take_pictures(browser, host, words)
     finally:
         browser.close()
 

@@ -192,7 +192,7 @@ def picture(browser, address, top, path):
     """A picture of a capture with lost packets."""
     browser.send("navigate", {"url": "about:blank"})
     browser.go(f"{address}#captures")
-    choose(browser, [f"{top}/vectors/captures/ngtcp2-migration.{end}" for end in ("pcap", "keys")])
+    choose(browser, [f"{top}/vectors/captures/ngtcp2-loss.{end}" for end in ("pcap", "keys")])
     browser.until("return document.querySelectorAll('#packets [data-index]').length > 0", "rows")
     browser.run("document.querySelectorAll('#packets [data-index]')[3].click()")
     browser.until("return !document.getElementById('packet').hidden", "a packet")

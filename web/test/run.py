@@ -23,7 +23,7 @@ import sizes
 import structs
 import tools
 import use
-from browser import Chromium, ELSEWHERE, Failed, Firefox
+from browser import Chromium, ELSEWHERE, Failed, Firefox, WebKit
 from common import STATUS, same
 
 PICTURES = [
@@ -208,12 +208,25 @@ def try_browser(kind, words, host, groups):
         browser.close()
 
 
+def try_webkit(words, host):
+    """In WebKitGTK the page starts, from a server and from a file, and opens a capture."""
+    browser = WebKit()
+    try:
+        print(f"{browser.name} {browser.version}", flush=True)
+        for address in (f"{host}/index.html", f"file://{words.site}/index.html"):
+            browser.go(address)
+            print(f"  {browser.run(STATUS)}")
+            print(f"  {captures.shown(browser, address, words.top, words.quic_wire)} packets of a capture", flush=True)
+    finally:
+        browser.close()
+
+
 def arguments():
     words = argparse.ArgumentParser()
     for name in ("top", "site", "quic_show", "quic_wire", "layout"):
         words.add_argument(name)
     words.add_argument("--pictures")
-    words.add_argument("--browser", choices=("chromium", "firefox"))
+    words.add_argument("--browser", choices=("chromium", "firefox", "webkit"))
     return words.parse_args()
 
 
@@ -228,6 +241,8 @@ def main():
     for name, kind in kinds.items():
         if words.browser in (None, name) and (name != "firefox" or shutil.which("firefox-esr")):
             try_browser(kind, words, host, groups)
+    if words.browser in (None, "webkit") and shutil.which("WebKitWebDriver") and shutil.which("xvfb-run"):
+        try_webkit(words, host)
 
 
 if __name__ == "__main__":

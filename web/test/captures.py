@@ -27,6 +27,13 @@ STATUS = "return document.getElementById('capture-status').textContent"
 TEXTS = "return [...document.querySelectorAll(arguments[0])].map((one) => one.textContent)"
 FILTER = """const filter = document.getElementById("filter"); filter.value = arguments[0];
     filter.dispatchEvent(new Event("input", { bubbles: true }));"""
+# Which boxes scroll sideways.
+WIDE = """const boxes = [document.documentElement, ...document.querySelectorAll("#captures-door *")];
+    return boxes.filter((one) => one.scrollWidth > one.clientWidth + 1 && one.clientWidth > 0
+        && !["hidden", "visible", "clip"].includes(getComputedStyle(one).overflowX))
+      .concat(document.documentElement.scrollWidth > window.innerWidth ? [document.body] : [])
+      .map((one) => `${one.id} ${one.className}`);"""
+WIDTHS = (400, 800, 1280, 1920)
 NOTE = "return document.getElementById('filter-note').textContent"
 
 
@@ -186,6 +193,22 @@ def rejected(browser, address, top):
     same(browser.run(STATUS), "Not read: README.md is neither a capture (pcap, pcapng, also compressed by gzip) nor a "
          "key log.", "a text")
     same(browser.run("return document.documentElement.dataset.capture"), "failed", "its state")
+
+
+def widths(browser, address, top):
+    """With a capture nothing is wider than the window, at any width."""
+    for width in WIDTHS:
+        browser.send("navigate", {"url": "about:blank"})
+        browser.go(f"{address}#captures")
+        browser.width(width)
+        choose(browser, [f"{top}/vectors/captures/ngtcp2-loss.{end}" for end in ("pcap", "keys")])
+        browser.until("return document.querySelectorAll('#packets [data-index]').length > 0", "rows")
+        browser.run("document.querySelector('#packets [data-index]').click()")
+        browser.until("return !document.getElementById('payload').hidden", "a payload")
+        browser.run("document.querySelector('#connections details').open = true")
+        same(browser.run(WIDE), [], f"what is too wide in {width} pixels")
+    browser.unshape()
+    return len(WIDTHS)
 
 
 def picture(browser, address, top, path):

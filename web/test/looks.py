@@ -22,7 +22,7 @@ CLICKED = ["#grid .byte", "#grid .byte.fault", "#grid .byte.differs", "#outline 
 
 def states(browser, address):
     """Shows the page in each state in turn: wrong, lit, chosen, beside, opened."""
-    for fragment in ("read=frames&hex=40000a000161", "read=frames&hex=02406419000301ff", "read=frames&text=zz",
+    for fragment in ("read=frames&quinn=1&hex=40000a000161", "read=frames&hex=02406419000301ff", "read=frames&text=zz",
                      "read=datagram&hex=c3000000010000", "read=params&hex=0104800075302201ff",
                      "read=frames&hex=01.4001.40&at=2", "read=datagram&hex=c3&versions=x&ids=99"):
         browser.go(f"{address}#{fragment}")

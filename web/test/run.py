@@ -125,6 +125,7 @@ def all_captures(browser, host, words):
     print(f"  {captures.all_agree(browser, address, top, program)} captures are saved as it prints them", flush=True)
     print(f"  {captures.broken_agree(browser, address, top, program)} captures with its findings", flush=True)
     captures.rejected(browser, address, top)
+    print(f"  captures at {captures.widths(browser, address, top)} widths")
     silent(browser, "captures")
 
 

@@ -9,6 +9,9 @@ use quic_wire::transport_parameters::{Error, ReadOptions, TransportParameters};
 use quic_wire::{MAX_CID_SIZE, Side, varint};
 use quic_wire_cli::objects::broken_rule;
 
+// Why a payload without bytes is rejected (RFC 9000, section 12.4).
+const EMPTY: &str = "packet payload is empty";
+
 /// Whose rules bytes are read by.
 #[derive(Clone, Copy, Debug, Default, PartialEq, Eq)]
 pub struct Choices {
@@ -72,7 +75,7 @@ pub fn frames(payload: &[u8], choices: Choices) -> (Vec<(usize, u64)>, usize, Op
     let mut found: Vec<(usize, u64)> = Vec::new();
     let mut frames = match Iter::with_rules(payload, choices.rules()) {
         Ok(frames) => frames,
-        Err(empty) => return (found, 0, Some(Ending::without_type(empty.reason.as_str()))),
+        Err(_) => return (found, 0, Some(Ending::without_type(EMPTY))),
     };
     loop {
         let begin = frames.offset();
@@ -166,7 +169,7 @@ pub fn shortest(payload: &[u8], choices: Choices) -> Result<Vec<u8>, Ending> {
         Ok(()) => Ok(out),
         Err(CanonError::Invalid(invalid)) => Err(Ending::from(&invalid)),
         Err(CanonError::OutOfMemory) => Err(Ending::without_type("out of memory")),
-        Err(CanonError::Empty) => Err(Ending::without_type("packet payload is empty")),
+        Err(CanonError::Empty) => Err(Ending::without_type(EMPTY)),
     }
 }
 
@@ -236,9 +239,7 @@ pub fn header(packet: &[u8], versions: &[u32], choices: Choices) -> (Header, Opt
     match HeaderPlaces::read_with(packet, choices.id_len.min(MAX_CID_SIZE), versions, choices.checks()) {
         Ok(places) => (Header::of(&places), None),
         Err(HeaderError::InvalidHeader(reason)) => (Header::default(), Some(reason)),
-        Err(HeaderError::CutOff(places)) => {
-            (Header::of(&places), Some("packet too short to contain payload length"))
-        }
+        Err(HeaderError::CutOff(places)) => (Header::of(&places), Some("packet too short to contain payload length")),
         Err(HeaderError::UnsupportedVersion(other)) => {
             let [dst_len, src_len] = [other.dst_cid(packet).len(), other.src_cid(packet).len()];
             let (first, version) = (packet.first().copied().unwrap_or_default(), other.version());

@@ -2,8 +2,8 @@
 
 use crate::filter::Filter;
 use crate::table::{Filled, Inside, MOST_KEPT, Row, Table};
-use quic_wire::datagram::PacketRef;
 use quic_wire::Side;
+use quic_wire::datagram::PacketRef;
 use quic_wire_capture::capture::{Capture, Datagram, Item};
 use quic_wire_capture::connection::Connection;
 use quic_wire_capture::follow::Follower;
@@ -152,7 +152,7 @@ impl Engine {
         let (kept, most) = match purpose {
             Purpose::Table => (0..=u64::MAX, MOST_KEPT),
             Purpose::Record(record) => (record..=record, MOST_KEPT),
-            Purpose::Objects => (1..=0, 0),
+            Purpose::Objects => (0..=0, 0),
         };
         let table = Rc::new(RefCell::new(Table::new(kept, most)));
         let has_packets = purpose == Purpose::Objects;
@@ -281,9 +281,7 @@ impl Engine {
     pub fn filter(&mut self, text: &str) -> Result<String, String> {
         self.filter = Filter::parse(text)?;
         let table = self.table.borrow();
-        let fits = |(index, row): &(usize, &Row)| {
-            self.filter.fits(&table, row, self.found.broken.contains_key(index))
-        };
+        let fits = |(index, row): &(usize, &Row)| self.filter.fits(&table, row, self.found.broken.contains_key(index));
         self.shown = match self.filter.is_empty() {
             true => Vec::new(),
             false => table.rows().iter().enumerate().filter(fits).map(|(index, _)| index as u32).collect(),

@@ -188,7 +188,10 @@ mod tests {
     fn it_says_what_it_lets_through() {
         let filter = Filter::parse("client -lost pn:3-5 \"stream 0\"").unwrap();
         let numbers = "with the number 3 to 5, with “stream 0” in the text";
-        assert_eq!(filter.explain(), format!("all packets of the client, except those that counted as lost, {numbers}"));
+        assert_eq!(
+            filter.explain(),
+            format!("all packets of the client, except those that counted as lost, {numbers}")
+        );
     }
 
     #[test]

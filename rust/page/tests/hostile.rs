@@ -58,7 +58,8 @@ fn changed_captures() {
     for round in 0..rounds(300) {
         let seed = &seeds[round % seeds.len()];
         let (mut file, mut keys) = (seed.file.clone(), seed.keys.clone());
-        change(&mut random, if random.below(8) == 0 { &mut keys } else { &mut file });
+        let changed = if random.below(8) == 0 { &mut keys } else { &mut file };
+        change(&mut random, changed);
         let mut engine = Engine::new(Purpose::Table);
         engine.add_keylog(&keys);
         let size = 1 + random.below(9000);

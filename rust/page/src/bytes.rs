@@ -2,7 +2,7 @@
 //! that shows them. Offsets count in the bytes that are held.
 
 use quic_wire::canonical::{CanonError, canonical_with};
-use quic_wire::datagram::{HeaderChecks, HeaderError, HeaderKind, HeaderPlaces};
+use quic_wire::datagram::{HeaderChecks, HeaderError, HeaderKind, HeaderPlaces, PacketPlace};
 use quic_wire::fields::{self, Fields};
 use quic_wire::frame::{Close, Frame, InvalidFrame, Iter, Rules};
 use quic_wire::transport_parameters::{Error, ReadOptions, TransportParameters};
@@ -254,7 +254,10 @@ pub fn header(packet: &[u8], versions: &[u32], choices: Choices) -> (Header, Opt
 /// Removes the protection of a packet's header with a mask, in a copy. Returns the first byte, how many bytes the
 /// packet number has, and the number as it is written; `None` if the packet is too short.
 pub fn unprotect(packet: &[u8], number_at: usize, mask: &[u8; 5]) -> Option<[u64; 3]> {
-    let place = quic_wire::datagram::PacketPlace::new(0..packet.len(), number_at);
+    if number_at > packet.len() {
+        return None;
+    }
+    let place = PacketPlace::new(0..packet.len(), number_at);
     let mut header = Vec::new();
     let opened = place.unprotect_header(packet, mask, 0, &mut header).ok()?;
     Some([opened.first.into(), opened.number_len as u64, opened.number])

@@ -83,6 +83,10 @@ fn packets_are_opened_again() {
             assert_eq!(datagram.len() as u64, packet["datagram_len"], "{}, {packet}", recorded.name);
             let Some(frames) = packet.get("frames") else { continue };
             opened(own, &datagram, packet);
+            // Of a packet that was sent again no frames are printed.
+            if packet.get("again").is_some() {
+                continue;
+            }
             let payload = hex(own["payload"].as_str().unwrap());
             let begins: Vec<_> = frames.as_array().unwrap().iter().map(|one| one["in_payload"][0].clone()).collect();
             let found = bytes::frames(&payload, Choices { rfc: true, ..Choices::default() });

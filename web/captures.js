@@ -9,7 +9,7 @@ import { count } from "./shown.js";
 import { Timeline } from "./timeline.js";
 
 // What files begin with that are captures: pcap in both byte orders, with microseconds or nanoseconds; pcapng; gzip.
-const CAPTURES = ["a1b2c3d4", "d4c3b2a1", "a1b23c4d", "4d3cb2a1", "0a0d0d0a"];
+const MAGIC_NUMBERS = ["a1b2c3d4", "d4c3b2a1", "a1b23c4d", "4d3cb2a1", "0a0d0d0a"];
 const COMPRESSED = "1f8b";
 // A key log of more bytes isn't read. Its beginning must have a line of a secret.
 const MOST_KEYS = 1 << 28;
@@ -22,7 +22,7 @@ const sizeText = (bytes) => (bytes < 1e6 ? `${(bytes / 1e3).toFixed(1)} kB` : `$
 async function isCapture(file) {
   const bytes = new Uint8Array(await file.slice(0, 4).arrayBuffer());
   const front = [...bytes].map((byte) => byte.toString(16).padStart(2, "0")).join("");
-  return CAPTURES.includes(front) || front.startsWith(COMPRESSED);
+  return MAGIC_NUMBERS.includes(front) || front.startsWith(COMPRESSED);
 }
 
 // The bytes of a key log.

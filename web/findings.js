@@ -5,7 +5,7 @@ import { count } from "./shown.js";
 
 const MOST_SHOWN = 500;
 
-function lineOf({ record, sender, type, number, seen, expected, rfc, section, count: times }) {
+function findingText({ record, sender, type, number, seen, expected, rfc, section, count: times }) {
   const which = `Record ${record}, ${sender}, ${type}${number === undefined ? "" : ` ${number}`}`;
   const often = times > 1 ? ` ${times} times.` : "";
   return `${which}: ${seen}. Expected: ${expected}.${often} RFC ${rfc}, section ${section}`;
@@ -16,7 +16,7 @@ export function showFindings(box, title, findings, go) {
   title.textContent = findings.length === 0 ? "No rule is broken, as far as the capture shows"
     : `${count(findings.length, "rule")} broken`;
   box.replaceChildren(...findings.slice(0, MOST_SHOWN).map((finding) => {
-    const button = element("button", "finding", lineOf(finding), { type: "button" });
+    const button = element("button", "finding", findingText(finding), { type: "button" });
     button.disabled = finding.row === null;
     button.addEventListener("click", () => go(finding.row));
     return button;

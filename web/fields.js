@@ -140,11 +140,13 @@ export function frameFields(library, bytes, begin, reason = OK, choices = undefi
     // What is cut off stays marked too.
     type.fault = true;
     fields.fault = type;
-  } else if (reason !== OK && !fields.fault) {
-    // A rule: of the field that it limits the number or the length.
+  } else if (reason !== OK && choices) {
     const { spans, numbers } = library.frameFields(begin, choices);
-    const name = nameOf(rows[Math.min(spans.length, rows.length - 1)], numbers);
-    fields.mark(fields.all.find((field) => field.name === name) ?? fields.last);
+    if (!fields.fault || spans.length < read.spans.length) {
+      // A rule: of the field that it limits the number or the length.
+      const name = nameOf(rows[Math.min(spans.length, rows.length - 1)], numbers);
+      fields.mark(fields.all.find((field) => field.name === name) ?? fields.last);
+    }
   }
   return { fields, type: type.number ?? null };
 }
@@ -218,14 +220,12 @@ export function packetFields(library, bytes, { begin, reason }, choices) {
   const [first, ...others] = header.fields;
   const rows = [{ ...first, name: "First Byte", show: ([byte]) => firstText(header, byte, false) },
     ...others.map((row) => (row.kind === "short_id" ? { ...row, bytes: [choices.idLength] } : row))];
-  const isCut = read.reason === PACKET_CUT;
-  fields.draw(rows, isCut ? { ...read, reason: ITEM } : read);
-  if (read.reason === ITEM) {
+  fields.draw(rows, read);
+  if (reason === PACKET_CUT) {
+    // The Length says how many bytes there should be.
+    fields.stop({ name: PROTECTED, bytes: [fields.last.number] }, { end: fields.last.end });
+  } else if (read.reason === ITEM) {
     behindHeader(fields, header);
-  } else if (isCut) {
-    // The Length at fault says how many bytes there should be.
-    const place = fields.number(rows[read.spans.length], 0, read.end);
-    fields.stop({ name: PROTECTED, bytes: [fields.last.number] }, { end: place });
   }
   if (reason === PACKET_FIXED_BIT) {
     fields.mark(fields.all[0]);

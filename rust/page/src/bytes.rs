@@ -243,8 +243,8 @@ pub fn header(packet: &[u8], versions: &[u32], choices: Choices) -> (Header, Opt
         Err(HeaderError::UnsupportedVersion(other)) => {
             let [dst_len, src_len] = [other.dst_cid(packet).len(), other.src_cid(packet).len()];
             let (first, version) = (packet.first().copied().unwrap_or_default(), other.version());
-            // Other versions may have longer ids; no page shows these as whole.
-            let is_long = dst_len > MAX_CID_SIZE || src_len > MAX_CID_SIZE;
+            // quinn-proto rejects these in any version.
+            let is_long = !choices.rfc && (dst_len > MAX_CID_SIZE || src_len > MAX_CID_SIZE);
             let reason = if is_long { "malformed cid" } else { "unsupported version" };
             (Header { version, first, dst_len, src_len, ..Header::default() }, Some(reason))
         }

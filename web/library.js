@@ -5,9 +5,9 @@ import { ITEM, LONG_FORM, OK } from "./layout.js";
 import { Module } from "./module.js";
 
 // Flags of how bytes are read: as RFC 9000, types in their shortest encoding, the fixed bit may be clear.
-const [RFC, SHORT_TYPES, GREASED_BIT] = [1, 2, 4];
+const FLAGS = { rfc: 1, shortTypes: 2, greasedBit: 4 };
 // What fields are asked of.
-const [FRAME, PACKET, ENTRY, VALUE] = [0, 1, 2, 3];
+const FIELDS_OF = { frame: 0, packet: 1, entry: 2, value: 3 };
 const NO_LIMIT = 0xffffffff;
 
 // The kinds of frames by their types.
@@ -29,7 +29,8 @@ function reasonOf(about, text) {
 
 // The flags of choices. As RFC 9000 reads, a clear fixed bit is shown, since RFC 9287 allows it.
 function flagsOf({ quinn, strict, grease, idLength = 0 }) {
-  return (quinn ? 0 : RFC) + (strict ? SHORT_TYPES : 0) + (grease || !quinn ? GREASED_BIT : 0) + 256 * idLength;
+  const { rfc, shortTypes, greasedBit } = FLAGS;
+  return (quinn ? 0 : rfc) + (strict ? shortTypes : 0) + (grease || !quinn ? greasedBit : 0) + 256 * idLength;
 }
 
 // A list of numbers below 2^32 that grows.
@@ -150,17 +151,17 @@ export class Library {
 
   // Rules of the RFC, and that types are in their shortest encoding, are checked as |choices| say, if there are any.
   frameFields(offset, choices = { quinn: true }) {
-    return this.fieldsAt(FRAME, offset, { flags: flagsOf(choices) });
+    return this.fieldsAt(FIELDS_OF.frame, offset, { flags: flagsOf(choices) });
   }
 
   // The fixed bit isn't checked.
   packetFields(offset, choices) {
     this.speak(choices.versions);
-    return this.fieldsAt(PACKET, offset, { flags: flagsOf(choices) });
+    return this.fieldsAt(FIELDS_OF.packet, offset, { flags: flagsOf(choices) });
   }
 
   entryFields(offset) {
-    return this.fieldsAt(ENTRY, offset);
+    return this.fieldsAt(FIELDS_OF.entry, offset);
   }
 
   // Where the entry that begins at |offset| ends, or null if it is cut off.
@@ -171,7 +172,7 @@ export class Library {
 
   // The fields of a parameter's value between these offsets.
   valueFields(id, offset, limit, choices) {
-    return this.fieldsAt(VALUE, offset, { limit, id, flags: flagsOf(choices) });
+    return this.fieldsAt(FIELDS_OF.value, offset, { limit, id, flags: flagsOf(choices) });
   }
 
   // Sets the versions whose long headers are read.

@@ -158,7 +158,7 @@ class FramesReading extends Reading {
 
   // The shortest payload with the same meaning, or why there is none.
   canonical() {
-    this.shortest ??= this.library.canonical(this.choices);
+    this.shortest ??= this.library.canonical({ quinn: this.choices.quinn });
     return this.shortest;
   }
 }

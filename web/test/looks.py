@@ -212,7 +212,7 @@ def active_names(browser):
             const at = document.getElementById(box.getAttribute("aria-activedescendant"));
             return at.getAttribute("aria-label") ?? at.textContent;"""
         same(browser.run(label), wanted, f"what {box} says")
-    set_form(browser, {"mode": "frames"}, "4001")
+    set_form(browser, {"mode": "frames", "quinn": True}, "4001")
     browser.run(POINT, "#grid [data-place='0']")
     label = "return document.getElementById('grid-0').getAttribute('aria-label')"
     same(browser.run(label), "byte 0, 40, Type of PING, differs", "a byte that differs")

@@ -8,17 +8,18 @@ import { columns, Page } from "./page.js";
 
 // How many libraries the bytes need, and how many the packets of captures.
 const [OF_BYTES, OF_CAPTURES] = [4, 2];
-const NEEDS = "It needs WebAssembly with 64-bit integers, as browsers of 2024 and later have it.";
+const NEEDS = "It needs WebAssembly with 64-bit integers, and DecompressionStream, as browsers of 2024 and later have them.";
 
 const elementOf = (id) => document.getElementById(id);
 
-// The module's bytes: those in the page, or else the file beside it.
+// The module's bytes: those in the page, which gzip compressed, or else the file beside it.
 async function moduleBytes() {
   const inlined = elementOf("module");
   if (inlined) {
-    return fromBase64(inlined.textContent);
+    const packed = new Blob([fromBase64(inlined.textContent)]).stream();
+    return new Response(packed.pipeThrough(new DecompressionStream("gzip"))).arrayBuffer();
   }
-  return new Uint8Array(await (await fetch("quic_wire_page.wasm")).arrayBuffer());
+  return (await fetch("quic_wire_page.wasm")).arrayBuffer();
 }
 
 // The worker: its script is in the page, or beside it.

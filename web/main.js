@@ -8,7 +8,8 @@ import { columns, Page } from "./page.js";
 
 // How many libraries the bytes need, and how many the packets of captures.
 const [OF_BYTES, OF_CAPTURES] = [4, 2];
-const NEEDS = "It needs WebAssembly with 64-bit integers, and DecompressionStream, as browsers of 2024 and later have them.";
+const NEEDS = "It needs WebAssembly with 64-bit integers, and DecompressionStream, as browsers of 2024 and later have "
+  + "them.";
 
 const elementOf = (id) => document.getElementById(id);
 

@@ -41,7 +41,7 @@ fn with_engine<T: Default>(act: impl FnOnce(&mut Engine, &[u8], &mut Vec<u8>, &m
 
 fn put(output: &mut Vec<u8>, numbers: impl IntoIterator<Item = u64>) {
     output.clear();
-    output.extend(numbers.into_iter().flat_map(u64::to_le_bytes));
+    numbers.into_iter().for_each(|number| output.extend_from_slice(&number.to_le_bytes()));
 }
 
 /// Where `len` bytes of input are to be put. They are zeros before.
@@ -252,12 +252,11 @@ pub extern "C" fn bytes_frames(flags: u32) {
         let (frames, end, ending) = bytes::frames(held, choices(flags));
         *words = ending.map_or(String::new(), Ending::words);
         let ty = ending.and_then(|ending| ending.ty);
-        let halves = [ty.unwrap_or_default() as u32, (ty.unwrap_or_default() >> 32) as u32];
-        output.clear();
-        output.reserve_exact(8 * frames.len() + 16);
-        let mut put = |numbers: &[u32]| output.extend(numbers.iter().copied().flat_map(u32::to_le_bytes));
-        put(&[end as u32, ty.is_some().into(), halves[0], halves[1]]);
-        frames.into_iter().for_each(|(begin, ty)| put(&[begin as u32, ty as u32]));
+        output.reserve(8 * frames.len() + 16);
+        // Two numbers of 4 bytes are one of 8.
+        let pair = |one: usize, two: u64| one as u64 & u64::from(u32::MAX) | two << 32;
+        let head = [pair(end, ty.is_some().into()), ty.unwrap_or_default()];
+        put(output, head.into_iter().chain(frames.into_iter().map(|(begin, ty)| pair(begin, ty))));
     });
 }
 

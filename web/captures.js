@@ -42,7 +42,8 @@ export class Captures {
   // bytes are in a row.
   constructor(byId, { module, worker, libraries, columns }) {
     Object.assign(this, { byId, module, makeWorker: worker, columns });
-    Object.assign(this, { worker: null, file: null, keyLogs: [], summary: null });
+    // |run| is the number of the capture that is read: answers about another one are late.
+    Object.assign(this, { worker: null, file: null, keyLogs: [], summary: null, run: 0 });
     const boxes = {
       list: byId("packets"), head: byId("packets-head"), filter: byId("filter"), note: byId("filter-note"),
     };
@@ -78,14 +79,18 @@ export class Captures {
       throw new Error(NO_WORKERS);
     }
     this.worker = this.makeWorker();
-    this.worker.addEventListener("message", ({ data: { type, ...message } }) => this.receive(type, message));
+    this.worker.addEventListener("message", ({ data: { type, run, ...message } }) => {
+      if (run === this.run) {
+        this.receive(type, message);
+      }
+    });
     const failed = ({ message = "the worker doesn’t start" }) => this.failed({ text: message });
     this.worker.addEventListener("error", failed);
     this.ask("start", { module: this.module });
   }
 
   ask(type, message = {}) {
-    this.worker?.postMessage({ type, ...message });
+    this.worker?.postMessage({ type, run: this.run, ...message });
   }
 
   receive(type, message) {
@@ -177,6 +182,7 @@ export class Captures {
       this.begin();
     }
     this.summary = null;
+    this.run += 1;
     this.list.forget();
     this.datagram.hide();
     for (const id of ["overview", "found", "table", "times"]) {

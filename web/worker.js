@@ -9,19 +9,18 @@ const STOPPED = "the module has stopped; if the capture is large, it may need mo
 class Session {
   constructor() {
     this.reader = null;
-    // Which capture is read: what is under way for another one ends.
+    // The number that the page gave the capture that is read. What is under way for another one ends.
     this.run = 0;
     // Whether what is under way ends early.
     this.isStopped = false;
   }
 
-  tell(type, message = {}) {
-    postMessage({ type, ...message });
+  tell(type, run, message = {}) {
+    postMessage({ type, run, ...message });
   }
 
   // Something to call with how many bytes of a file were read. It reports that, and returns whether to stop.
-  progress(file, more = () => ({})) {
-    const { run } = this;
+  progress(file, run, more = () => ({})) {
     let told = 0;
     this.isStopped = false;
     return (read) => {
@@ -31,7 +30,7 @@ class Session {
       const now = performance.now();
       if (now - told > PAUSE) {
         told = now;
-        this.tell("progress", { read, size: file.size, ...more() });
+        this.tell("progress", run, { read, size: file.size, ...more() });
       }
       return this.isStopped;
     };
@@ -45,65 +44,70 @@ class Session {
     this.isStopped = true;
   }
 
-  async open({ file, bytes, keyLogs }) {
-    this.run += 1;
+  async open({ file, bytes, keyLogs }, run) {
     const source = bytes ? new HeldFile(bytes) : file;
     const began = performance.now();
     const reader = new Reader(await this.compiled, source, keyLogs);
     this.reader = reader;
-    await reader.read(this.progress(source, () => ({ count: reader.count })));
+    await reader.read(this.progress(source, run, () => ({ count: reader.count })));
     const { fault } = reader;
     const spent = performance.now() - began;
-    this.tell("ready", { summary: reader.summary(), fault, spent, isStopped: this.isStopped });
+    this.tell("ready", run, { summary: reader.summary(), fault, spent, isStopped: this.isStopped });
   }
 
-  filter({ text }) {
-    this.tell("filtered", this.reader.filter(text));
+  filter({ text }, run) {
+    this.tell("filtered", run, this.reader.filter(text));
   }
 
-  rows({ from, to }) {
-    this.tell("rows", { from, list: this.reader.rows(from, to) });
+  rows({ from, to }, run) {
+    this.tell("rows", run, { from, list: this.reader.rows(from, to) });
   }
 
-  cards({ from, to }) {
-    this.tell("cards", { from, list: this.reader.cards(from, to) });
+  cards({ from, to }, run) {
+    this.tell("cards", run, { from, list: this.reader.cards(from, to) });
   }
 
-  position({ index }) {
-    this.tell("position", { index, at: this.reader.position(index) });
+  position({ index }, run) {
+    this.tell("position", run, { index, at: this.reader.position(index) });
   }
 
-  points({ connection }) {
+  points({ connection }, run) {
     const points = this.reader.points(connection);
-    postMessage({ type: "points", connection, points }, [points.buffer]);
+    postMessage({ type: "points", run, connection, points }, [points.buffer]);
   }
 
-  async detail({ index }) {
-    this.tell("detail", { detail: await this.reader.detail(index, this.progress(this.reader.file)) });
+  async detail({ index }, run) {
+    const detail = await this.reader.detail(index, this.progress(this.reader.file, run));
+    this.tell("detail", run, { detail });
   }
 
-  async save() {
-    const progress = this.progress(this.reader.file);
+  async save(_, run) {
+    const progress = this.progress(this.reader.file, run);
     const parts = await this.reader.objects((read) => {
       if (progress(read)) {
         throw new Cancelled();
       }
       return false;
     });
-    this.tell("saved", { blob: new Blob(parts, { type: "application/x-ndjson" }) });
+    this.tell("saved", run, { blob: new Blob(parts, { type: "application/x-ndjson" }) });
   }
 
-  // Does what a message asks for.
-  async take({ type, ...message }) {
+  // Does what a message asks for, unless it is about a capture that is no longer read, or isn't yet.
+  async take({ type, run, ...message }) {
+    if (type === "open") {
+      this.run = run;
+    } else if (!["start", "stop"].includes(type) && (run !== this.run || !this.reader?.module)) {
+      return;
+    }
     try {
-      await this[type](message);
+      await this[type](message, run);
     } catch (error) {
       if (error instanceof Cancelled) {
-        this.tell("cancelled");
+        this.tell("cancelled", run);
         return;
       }
       const isStopped = error instanceof WebAssembly.RuntimeError;
-      this.tell("failed", { text: isStopped ? STOPPED : error.message, name: error.name });
+      this.tell("failed", run, { text: isStopped ? STOPPED : error.message, name: error.name });
     }
   }
 }

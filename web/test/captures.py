@@ -52,14 +52,15 @@ def printed(program, mode, capture, keys):
     return subprocess.run(words, capture_output=True, text=True, check=False).stdout
 
 
-def choose(browser, files, is_dropped=False):
-    """Gives files to the page, and waits until they are read."""
+def choose(browser, files, is_dropped=False, state="ready"):
+    """Gives files to the page, and waits until they are read, or rejected if |state| is failed."""
     given = []
     for path in files:
         with open(path, "rb") as file:
             given.append((os.path.basename(path), base64.b64encode(file.read()).decode()))
     browser.run(CHOOSE, given, is_dropped)
     browser.until(ENDED, f"{files} are read")
+    same(browser.run("return document.documentElement.dataset.capture"), state, f"{files}: {browser.run(STATUS)}")
 
 
 def finding_text(one):
@@ -189,10 +190,9 @@ def rejected(browser, address, top):
     """Files that are neither: words, and what was there stays."""
     browser.send("navigate", {"url": "about:blank"})
     browser.go(f"{address}#captures")
-    choose(browser, [f"{top}/README.md"])
+    choose(browser, [f"{top}/README.md"], state="failed")
     same(browser.run(STATUS), "Not read: README.md is neither a capture (pcap, pcapng, also compressed by gzip) nor a "
          "key log.", "a text")
-    same(browser.run("return document.documentElement.dataset.capture"), "failed", "its state")
 
 
 def widths(browser, address, top):

@@ -6,8 +6,9 @@ export const EXAMPLES = [
   {
     name: "a payload",
     mode: "frames",
-    text: "024064190203010a05020e0444b00c68656c6c6f2c20776f726c6411048001000018020108c1d2e3f405162738a0"
-      + "a1a2a3a4a5a6a7a8a9aaabacadaeaf4001000000000000",
+    // A length in more bytes than it needs, as RFC 9000 allows.
+    text: "024064190203010a05020e0444b0400c68656c6c6f2c20776f726c6411048001000018020108c1d2e3f405162738"
+      + "a0a1a2a3a4a5a6a7a8a9aaabacadaeaf01000000000000",
   },
   {
     name: "a payload with an error",

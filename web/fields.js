@@ -4,7 +4,7 @@
 import { toHex } from "./bytes.js";
 import { FRAMES, HEADERS, PREFERRED_ADDRESS } from "./formats.js";
 import {
-  INITIAL, ITEM, OK, PACKET_CUT, PACKET_FIXED_BIT, PACKET_MALFORMED_CID, REASON_LONG_TYPE, RETRY, SHORT,
+  INITIAL, ITEM, OK, PACKET_CUT, PACKET_FIXED_BIT, PACKET_MALFORMED_CID, PACKET_RETRY, REASON_LONG_TYPE, RETRY, SHORT,
   VERSION_NEGOTIATION,
 } from "./layout.js";
 import { headerOf, parameterOf } from "./names.js";
@@ -15,6 +15,8 @@ const FIELD_RANGES = 1000;
 const LONGEST_ID = 20;
 const TAG_LENGTH = 16;
 const PROTECTED = "Packet Number and Packet Payload, protected";
+const FIXED_BIT = 0x40;
+const GREASED = "the fixed bit is 0, as RFC 9287 allows";
 
 // Whether a field has a number of this index; if not, its bytes follow those numbers.
 const hasNumber = ({ kind, length }, index) => ["number", "ranges"].includes(kind) || Boolean(length && index === 0);
@@ -127,16 +129,24 @@ class Fields {
 // ---- Frames
 
 // The fields of the frame that begins at |begin|, and its type, null if that is cut off. |reason| is why the frame is
-// rejected, if it is.
-export function frameFields(library, bytes, begin, reason = OK) {
+// rejected by these choices, if it is.
+export function frameFields(library, bytes, begin, reason = OK, choices = undefined) {
   const fields = new Fields(library, bytes);
   const read = library.frameFields(begin);
-  fields.draw(FRAMES.get(Number(read.spans[0]?.number ?? 0)).fields, read);
+  const rows = FRAMES.get(Number(read.spans[0]?.number ?? 0)).fields;
+  fields.draw(rows, read);
   const [type] = fields.all;
   if (reason === REASON_LONG_TYPE) {
     // What is cut off stays marked too.
     type.fault = true;
     fields.fault = type;
+  } else if (reason !== OK && choices) {
+    const { spans, numbers } = library.frameFields(begin, choices);
+    if (!fields.fault || spans.length < read.spans.length) {
+      // A rule: of the field that it limits the number or the length.
+      const name = nameOf(rows[Math.min(spans.length, rows.length - 1)], numbers);
+      fields.mark(fields.all.find((field) => field.name === name) ?? fields.last);
+    }
   }
   return { fields, type: type.number ?? null };
 }
@@ -210,17 +220,19 @@ export function packetFields(library, bytes, { begin, reason }, choices) {
   const [first, ...others] = header.fields;
   const rows = [{ ...first, name: "First Byte", show: ([byte]) => firstText(header, byte, false) },
     ...others.map((row) => (row.kind === "short_id" ? { ...row, bytes: [choices.idLength] } : row))];
-  const isCut = read.reason === PACKET_CUT;
-  fields.draw(rows, isCut ? { ...read, reason: ITEM } : read);
-  if (read.reason === ITEM) {
+  fields.draw(rows, read);
+  if (reason === PACKET_CUT) {
+    // The Length says how many bytes there should be.
+    fields.stop({ name: PROTECTED, bytes: [fields.last.number] }, { end: fields.last.end });
+  } else if (read.reason === ITEM) {
     behindHeader(fields, header);
-  } else if (isCut) {
-    // The Length at fault says how many bytes there should be.
-    const place = fields.number(rows[read.spans.length], 0, read.end);
-    fields.stop({ name: PROTECTED, bytes: [fields.last.number] }, { end: place });
   }
   if (reason === PACKET_FIXED_BIT) {
     fields.mark(fields.all[0]);
+  } else if (reason === PACKET_RETRY) {
+    fields.mark(fields.last);
+  } else if ((bytes[begin] & FIXED_BIT) === 0 && header.name !== "Version Negotiation") {
+    fields.all[0].note = GREASED;
   }
   return fields;
 }
@@ -251,9 +263,9 @@ function withUnit(number, unit) {
 }
 
 // The value of a parameter, which is all that may be drawn.
-function valueFields(fields, id, begin) {
+function valueFields(fields, id, begin, choices) {
   const { kind, unit } = parameterOf(id);
-  const read = fields.library.valueFields(id, begin, fields.limit);
+  const read = fields.library.valueFields(id, begin, fields.limit, choices);
   const number = { kind, name: "Value", show: (value) => withUnit(value, unit) };
   const rows = { number: [number], preferred_address: PREFERRED_ADDRESS }[kind] ?? [];
   fields.draw(rows, read);
@@ -272,13 +284,13 @@ function valueFields(fields, id, begin) {
 
 // The fields of the entry that begins at |begin|, its id, null if that is cut off, and where it ends, null if it is cut
 // off.
-export function parameterFields(library, bytes, begin) {
+export function parameterFields(library, bytes, begin, choices) {
   const read = library.entryFields(begin);
   const [id, value] = read.spans;
   const fields = new Fields(library, bytes, value?.end);
   fields.draw(ENTRY, value ? { ...read, spans: [id], reason: ITEM } : read);
   if (value) {
-    valueFields(fields, id.number, fields.number(ENTRY[1], 0, value.begin));
+    valueFields(fields, id.number, fields.number(ENTRY[1], 0, value.begin), choices);
   }
   return { fields, id: id?.number ?? null, end: value?.end ?? null };
 }

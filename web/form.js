@@ -30,7 +30,8 @@ export class Form {
   get state() {
     const { elements } = this;
     return {
-      mode: elements.mode.value, strict: elements.strict.checked, idLength: Number(elements.idLength.value),
+      mode: elements.mode.value, quinn: elements.quinn.checked, strict: elements.strict.checked,
+      idLength: Number(elements.idLength.value),
       side: elements.side.value, versions: versionsOf(elements.versions.value) ?? VERSIONS,
       grease: elements.grease.checked, text: this.text, lines: this.lines, at: this.at,
       compare: elements.compare.checked, other: this.other.value, opened: this.opened,
@@ -41,6 +42,7 @@ export class Form {
   set state(state) {
     const { elements } = this;
     elements.mode.value = state.mode;
+    elements.quinn.checked = state.quinn;
     elements.strict.checked = state.strict;
     elements.idLength.value = state.idLength;
     elements.side.value = state.side;
@@ -95,6 +97,10 @@ export class Form {
     const { elements } = this;
     for (const choices of this.form.querySelectorAll(".choices")) {
       choices.hidden = choices.dataset.mode !== elements.mode.value;
+    }
+    // The RFC leaves no choice of these.
+    for (const name of ["strict", "grease"]) {
+      elements[name].parentElement.hidden = !elements.quinn.checked;
     }
     elements.versions.setAttribute("aria-invalid", versionsOf(elements.versions.value) === null);
     elements.input.setAttribute("aria-invalid", !isText);

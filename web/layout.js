@@ -1,5 +1,5 @@
-// Structs and constants of c/include/quic_wire.h and arguments of calls, as they are in the module, whose pointers
-// and sizes have 64 bits.
+// Structs and constants of c/include/quic_wire.h and arguments of calls, as they are in the module for callers of C,
+// whose pointers and sizes have 64 bits. The page uses the constants.
 // Made by scripts/tables from the header and the crates: change nothing here. scripts/test-web compares the structs
 // with what layout.c prints.
 
@@ -51,20 +51,20 @@ export const CALLS = {
 // What calls return.
 export const OK = 0;
 export const ITEM = 1;
-export const EMPTY = -20;
 export const REASON_MALFORMED = -23;
 export const REASON_LONG_TYPE = -24;
+export const REASON_LIMIT = -25;
 export const PACKET_FIXED_BIT = -41;
 export const PACKET_MALFORMED_CID = -43;
 export const PACKET_UNSUPPORTED_VERSION = -45;
 export const PACKET_CUT = -46;
+export const PACKET_RETRY = -47;
 export const PARAMS_MALFORMED = -60;
 export const PARAMS_ILLEGAL = -61;
 
 // Kinds of frames.
 export const PADDING = 0x00;
 export const ACK = 0x02;
-export const NEW_CONNECTION_ID = 0x18;
 
 // Kinds of packets.
 export const INITIAL = 0;
@@ -72,15 +72,5 @@ export const RETRY = 3;
 export const SHORT = 4;
 export const VERSION_NEGOTIATION = 5;
 
-// Flags of readers.
-export const READ_SHORT_TYPES = 0x001;
-export const READ_GREASED_BIT = 0x010;
-
 // A bit of a first byte.
 export const LONG_FORM = 0x80;
-
-// How many fields a call stores at most.
-export const MAX_FIELDS = 8;
-
-// What stands for no type.
-export const NO_TYPE = 2n ** 64n - 1n;

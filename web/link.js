@@ -9,11 +9,13 @@ const MAX_LINKED = 65536;
 const MAX_ID_LENGTH = 20;
 
 export const DEFAULT_STATE = {
-  mode: "frames", strict: false, idLength: 8, side: "client", versions: VERSIONS, grease: false, text: "",
+  mode: "frames", quinn: false, strict: false, idLength: 8, side: "client", versions: VERSIONS, grease: false, text: "",
   // How lines are read; which of the inputs is shown; whether another one is beside it, and which; what packets are
   // opened with, by their index; and the id from which keys of Initial packets follow.
   lines: "auto", at: 0, compare: false, other: "", opened: {}, firstId: "",
 };
+// What a link to captures begins with. It has the filter, and nothing of a capture.
+const CAPTURES = "captures";
 // Separates the digits of two inputs, and of what a packet is opened with.
 const BETWEEN = ".";
 
@@ -32,7 +34,10 @@ export function versionsText(versions) {
 
 // The choices that aren't the default.
 function choiceWords(words, state) {
-  if (state.mode === "frames" && state.strict) {
+  if (state.quinn) {
+    words.set("quinn", "1");
+  }
+  if (state.mode === "frames" && state.quinn && state.strict) {
     words.set("strict", "1");
   }
   if (state.mode === "datagram") {
@@ -40,7 +45,7 @@ function choiceWords(words, state) {
     if (versionsText(state.versions) !== versionsText(VERSIONS)) {
       words.set("versions", versionsText(state.versions));
     }
-    if (state.grease) {
+    if (state.quinn && state.grease) {
       words.set("grease", "1");
     }
   }
@@ -108,6 +113,7 @@ export function stateOf(fragment) {
   if (["frames", "datagram", "params"].includes(words.get("read"))) {
     state.mode = words.get("read");
   }
+  state.quinn = words.get("quinn") === "1";
   state.strict = words.get("strict") === "1";
   state.grease = words.get("grease") === "1";
   state.side = words.get("side") === "server" ? "server" : "client";
@@ -123,3 +129,12 @@ export function stateOf(fragment) {
   state.firstId = words.get("first") ?? "";
   return state;
 }
+
+// Whether a link is to captures, not to bytes.
+export const isOfCaptures = (fragment) => fragment === CAPTURES || fragment.startsWith(`${CAPTURES}&`);
+
+export const captureFragment = (filter) => (
+  filter === "" ? CAPTURES : `${CAPTURES}&filter=${encodeURIComponent(filter)}`);
+
+// The filter of a link to captures.
+export const filterOf = (fragment) => new URLSearchParams(fragment).get("filter") ?? "";

@@ -186,7 +186,7 @@ export class Opened {
   }
 
   readPayload(bytes) {
-    return readBytes(this.library, bytes, { mode: "frames", strict: false });
+    return readBytes(this.library, bytes, { mode: "frames", quinn: this.reading.choices.quinn });
   }
 
   // Shows the payload of a packet, or none.

@@ -1,7 +1,7 @@
 // The page: reads the form, has the bytes read, and shows what they are.
 
 import { Beside } from "./beside.js";
-import { fromBase64, fromHex, toHex } from "./bytes.js";
+import { fromHex, toHex } from "./bytes.js";
 import { copied, sayOn } from "./copied.js";
 import { entriesOf, readText } from "./entries.js";
 import { EXAMPLES } from "./examples.js";
@@ -9,8 +9,7 @@ import { Form } from "./form.js";
 import { otherMode } from "./hint.js";
 import { inspect } from "./inspector.js";
 import { INITIAL } from "./layout.js";
-import { Library } from "./library.js";
-import { DEFAULT_STATE, fragmentOf, isLinked, stateOf } from "./link.js";
+import { DEFAULT_STATE, fragmentOf, isLinked, isOfCaptures, stateOf } from "./link.js";
 import { EntryList } from "./list.js";
 import { Opened } from "./opened.js";
 import { linesOf } from "./outline.js";
@@ -32,18 +31,10 @@ const NOT_COPIED = "Not copied; it is in the address bar";
 
 const byId = (id) => document.getElementById(id);
 const narrow = window.matchMedia("(max-width: 60rem)");
-const columns = () => (narrow.matches ? 8 : 16);
+// How many bytes are in a row.
+export const columns = () => (narrow.matches ? 8 : 16);
 
-// The module's bytes: those in the page, or else the file beside it.
-async function moduleBytes() {
-  const inlined = byId("module");
-  if (inlined) {
-    return fromBase64(inlined.textContent);
-  }
-  return (await fetch("quic_wire.wasm")).arrayBuffer();
-}
-
-class Page {
+export class Page {
   // Each reading that is shown has its own library, since it asks for items when they are drawn.
   constructor([library, besideLibrary, listLibrary, payloadLibrary]) {
     this.library = library;
@@ -86,8 +77,9 @@ class Page {
       byId("examples").append(plainButton(name, take));
     }
     const { mode, text } = EXAMPLES[0];
-    // The part of the page's address after #, as far as the page understands it.
-    this.fragment = window.location.hash.slice(1);
+    // The part of the page's address after #, as far as it is about bytes.
+    const fragment = window.location.hash.slice(1);
+    this.fragment = isOfCaptures(fragment) ? "" : fragment;
     this.form.state = this.fragment ? stateOf(this.fragment) : { ...DEFAULT_STATE, mode, text };
     this.update();
   }
@@ -133,7 +125,7 @@ class Page {
   // Takes the state from a link that was followed while the page is open.
   follow() {
     const fragment = window.location.hash.slice(1);
-    if (fragment !== this.fragment) {
+    if (fragment !== this.fragment && !isOfCaptures(fragment)) {
       this.fragment = fragment;
       this.take(stateOf(fragment));
     }
@@ -262,7 +254,8 @@ class Page {
     const { reading } = this;
     byId("views").hidden = reading === null || reading.bytes.length === 0;
     byId("keys").hidden = byId("views").hidden;
-    byId("text").hidden = reading === null;
+    // quic-show reads as quinn-proto does.
+    byId("text").hidden = reading === null || !this.chosen.quinn;
     showStatus(byId("status"), reading, this.found, this.form.at, {
       go: (place) => this.goTo(place), other: reading && otherMode(this.listLibrary, reading, this.chosen),
       change: (mode) => this.change(mode),
@@ -343,7 +336,7 @@ class Page {
     const copy = plainButton("Copy it", () => this.copyShortest(copy, canonical.bytes));
     const size = `${count(canonical.bytes.length, "byte")}, ${fewer} fewer, with the same frames in the same order. `;
     byId("shortest-note").replaceChildren(size, copy);
-    const shortest = readBytes(this.besideLibrary, canonical.bytes, { mode: "frames", strict: false });
+    const shortest = readBytes(this.besideLibrary, canonical.bytes, { ...this.chosen, mode: "frames" });
     yield;
     this.shortest.show(shortest, columns(), true);
   }
@@ -368,18 +361,3 @@ class Page {
 }
 
 const NOTHING_FURTHER = { lines: "auto", at: 0, compare: false, other: "", opened: {}, firstId: "" };
-
-async function begin() {
-  try {
-    new Page(await Library.load(await moduleBytes(), 4)).start();
-  } catch (error) {
-    const status = byId("status");
-    status.className = "status bad";
-    status.textContent = "The library does not start in this browser. It needs WebAssembly with a 64-bit memory, which "
-      + `Chromium, Chrome and Edge have from 133 on and Firefox from 134 on. ${error}`;
-    document.documentElement.dataset.state = "failed";
-    throw error;
-  }
-}
-
-begin();

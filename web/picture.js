@@ -139,11 +139,16 @@ export function pictureOf(reading, box, columns, title, differs) {
   }, parts.join("\n"));
 }
 
-// Gives a text to the browser to save as a file.
-export function saveText(text, type, name) {
+// Gives bytes to the browser to save as a file.
+export function saveBlob(blob, name) {
   const link = document.createElement("a");
-  link.href = URL.createObjectURL(new Blob([text], { type }));
+  link.href = URL.createObjectURL(blob);
   link.download = name;
   link.click();
   setTimeout(() => URL.revokeObjectURL(link.href), 10000);
+}
+
+// The same of a text.
+export function saveText(text, type, name) {
+  saveBlob(new Blob([text], { type }), name);
 }

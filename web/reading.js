@@ -4,10 +4,10 @@
 import {
   frameFields, openedFields, packetFields, paddingRun, parameterFields, parameterSummary,
 } from "./fields.js";
-import { REASONS } from "./formats.js";
+import { FRAMES, REASONS } from "./formats.js";
 import {
-  ACK, NEW_CONNECTION_ID, OK, PACKET_FIXED_BIT, PACKET_UNSUPPORTED_VERSION, PADDING, PARAMS_ILLEGAL, PARAMS_MALFORMED,
-  REASON_MALFORMED,
+  ACK, OK, PACKET_FIXED_BIT, PACKET_RETRY, PACKET_UNSUPPORTED_VERSION, PADDING, PARAMS_ILLEGAL, PARAMS_MALFORMED,
+  REASON_LIMIT, REASON_MALFORMED,
 } from "./layout.js";
 import { Words } from "./library.js";
 import {
@@ -102,7 +102,7 @@ class Reading {
 class FramesReading extends Reading {
   constructor(library, bytes, choices) {
     super(library, bytes, choices);
-    const { begins, kinds, error } = library.readFrames(choices.strict);
+    const { begins, kinds, error } = library.readFrames(choices);
     this.begins = begins;
     this.kinds = kinds;
     this.unit = "frame";
@@ -119,16 +119,20 @@ class FramesReading extends Reading {
     return this.kinds.some((kind, index) => kind === PADDING && this.end(index) - this.begin(index) > 1);
   }
 
-  describe({ reason, type }) {
-    const ofMalformed = Number(type) === NEW_CONNECTION_ID ? "RFC 9000, section 19.15" : "RFC 9000, section 19.3.1";
+  // A frame's section says which values it may have; that of an ACK's ranges is their own.
+  describe({ reason, note, type }) {
+    const { kind, section } = FRAMES.get(Number(type)) ?? {};
+    const ofFrame = kind === ACK ? "RFC 9000, section 19.3.1" : section;
+    const isOfFrame = section !== undefined && [REASON_MALFORMED, REASON_LIMIT].includes(reason);
     return {
       place: this.readRest().fields.fault.begin, reason: reasonText(reason), type, code: closeCode(reason),
-      section: reason === REASON_MALFORMED ? ofMalformed : REASONS.get(reason).section,
+      section: isOfFrame ? ofFrame : REASONS.get(reason).section,
+      note: note && `${note[0].toUpperCase()}${note.slice(1)}.`,
     };
   }
 
   readRest() {
-    return frameFields(this.library, this.bytes, this.rest, this.failure.reason);
+    return frameFields(this.library, this.bytes, this.rest, this.failure.reason, this.choices);
   }
 
   make(index) {
@@ -154,7 +158,7 @@ class FramesReading extends Reading {
 
   // The shortest payload with the same meaning, or why there is none.
   canonical() {
-    this.shortest ??= this.library.canonical();
+    this.shortest ??= this.library.canonical({ quinn: this.choices.quinn });
     return this.shortest;
   }
 }
@@ -190,6 +194,9 @@ class DatagramReading extends Reading {
   sectionOf(reason) {
     if (reason === PACKET_UNSUPPORTED_VERSION) {
       return "a server may answer with a Version Negotiation packet: RFC 9000, section 6";
+    }
+    if (reason === PACKET_RETRY) {
+      return "the packet is dropped: RFC 9000, section 17.2.5.2";
     }
     const header = new DataView(this.bytes.slice(this.rest, this.rest + 5).buffer);
     if (reason === PACKET_FIXED_BIT && header.byteLength === 5 && header.getUint8(0) >= 0x80) {
@@ -246,7 +253,7 @@ class ParamsReading extends Reading {
     this.unit = "parameter";
     this.error = null;
     this.scan();
-    const { reason, offset } = library.readParams(choices.side);
+    const { reason, offset } = library.readParams(choices);
     if (reason !== OK) {
       this.refused = this.begins.indexOf(offset);
       if (reason === PARAMS_MALFORMED) {
@@ -282,7 +289,7 @@ class ParamsReading extends Reading {
 
   describe(reason) {
     this.reason = reason;
-    const { fields, id } = parameterFields(this.library, this.bytes, this.begins[this.refused]);
+    const { fields, id } = parameterFields(this.library, this.bytes, this.begins[this.refused], this.choices);
     const fault = this.faultOf(fields, id);
     const isServers = this.isServers(id);
     return {
@@ -306,7 +313,7 @@ class ParamsReading extends Reading {
   }
 
   make(index) {
-    const { fields, id, end } = parameterFields(this.library, this.bytes, this.begin(index));
+    const { fields, id, end } = parameterFields(this.library, this.bytes, this.begin(index), this.choices);
     const { name, tone } = { ...parameterOf(id), ...(id === null ? { name: "not a parameter" } : {}) };
     const summary = parameterSummary(fields, id);
     if (index !== this.bad) {

@@ -1,11 +1,12 @@
-// A driver of the test vectors with what the page of web/ reads: its items and their fields, and the module's calls.
+// A driver of the test vectors with what the page of web/ reads as quinn-proto does: its items and their fields.
 //
-// node --experimental-default-type=module --experimental-wasm-memory64 page.mjs MODULE
+// node --experimental-default-type=module page.mjs MODULE, which scripts/page-module makes
 import fs from "node:fs";
 import readline from "node:readline";
 
+import { ACK, PADDING } from "../../web/layout.js";
 import { Library } from "../../web/library.js";
-import { ACK, PADDING } from "../../web/names.js";
+import { parameterOf } from "../../web/names.js";
 import { readBytes } from "../../web/reading.js";
 
 const PACKETS = ["Initial", "0-RTT", "Handshake", "Retry", "1-RTT", "Version Negotiation"];
@@ -20,21 +21,6 @@ const NAMES = {
 };
 // Fields that only say where others end.
 const LENGTHS = /^(type|first_byte|.*length|ack_range.*|first_ack_range|gap|packet_number_and_.*|retry_token_and_.*)$/;
-const PARAMETERS = {
-  original_dst_cid: "original_destination_connection_id", initial_src_cid: "initial_source_connection_id",
-  retry_src_cid: "retry_source_connection_id", preferred_v4: "preferred_ipv4_address",
-  preferred_v4_port: "preferred_ipv4_port", preferred_v6: "preferred_ipv6_address",
-  preferred_v6_port: "preferred_ipv6_port", preferred_cid: "preferred_connection_id",
-  preferred_token: "preferred_stateless_reset_token", stateless_reset_token: "stateless_reset_token",
-};
-// The bit of |present| for each field of the record that a list may lack.
-const PRESENT = {
-  stateless_reset_token: 0x001, max_datagram_frame_size: 0x004, preferred_v4: 0x008, preferred_v4_port: 0x008,
-  preferred_v6: 0x008, preferred_v6_port: 0x008, preferred_cid: 0x008, preferred_token: 0x008, original_dst_cid: 0x040,
-  initial_src_cid: 0x080, retry_src_cid: 0x100, min_ack_delay: 0x400,
-};
-const FLAGS = { disable_active_migration: 0x002, grease_quic_bit: 0x200 };
-
 const hex = (bytes) => Buffer.from(bytes).toString("hex");
 const valid = (read) => `valid ${JSON.stringify(read)}`;
 const invalid = (code, at, before) => `invalid ${code} ${JSON.stringify({ at, before })}`;
@@ -73,22 +59,16 @@ function frameOf(item, bytes) {
   return out;
 }
 
-// What was read for each whole item; the page must have found the same fields as the library.
+// What was read for each whole item.
 function itemsOf(reading, of) {
-  return Array.from({ length: reading.whole }, (_, index) => {
-    const item = reading.item(index);
-    if (!item.agrees) {
-      throw new Error(`item ${index}: the page's fields aren't the library's`);
-    }
-    return of(item);
-  });
+  return Array.from({ length: reading.whole }, (_, index) => of(reading.item(index)));
 }
 
 function payload(library, bytes, context) {
   if (context.without) {
     return "skip"; // the page always knows the frames of the ACK frequency extension
   }
-  const reading = readBytes(library, bytes, { mode: "frames", strict: context.strict === "1" });
+  const reading = readBytes(library, bytes, { mode: "frames", quinn: true, strict: context.strict === "1" });
   const read = itemsOf(reading, (item) => frameOf(item, bytes));
   return reading.error ? invalid(reading.error.code.split(" ")[0], reading.rest, read) : valid(read);
 }
@@ -112,7 +92,7 @@ function packetOf(reading, item, bytes) {
 function datagram(library, bytes, context) {
   const versions = context.versions === "1" ? VERSIONS.slice(0, 1) : VERSIONS;
   const idLength = Number(context.cid_len ?? 8);
-  const choices = { mode: "datagram", idLength, versions, grease: context.grease === "1" };
+  const choices = { mode: "datagram", quinn: true, idLength, versions, grease: context.grease === "1" };
   const reading = readBytes(library, bytes, choices);
   const read = itemsOf(reading, (item) => packetOf(reading, item, bytes));
   if (!reading.error) {
@@ -122,28 +102,37 @@ function datagram(library, bytes, context) {
   return reading.error.version === null ? invalid("DROP", reading.rest, read) : "valid";
 }
 
+// What an entry says, under the tests' names.
+function entryOf({ name, kind, fields }, bytes) {
+  const values = fields.filter((field) => !field.name.startsWith("Parameter "));
+  if (kind === "flag") {
+    return { [name]: "1" };
+  }
+  if (kind !== "preferred_address") {
+    const [value] = values;
+    return { [name]: value?.number === undefined ? hex(bytes.subarray(value?.begin, value?.end)) : `${value.number}` };
+  }
+  return Object.fromEntries(values.filter((field) => !LENGTHS.test(nameOf(field))).map((field) => {
+    const digits = hex(bytes.subarray(field.begin, field.end));
+    const isPort = field.name.endsWith("Port");
+    return [`preferred_${nameOf(field).replace("dcid", "connection_id")}`, isPort ? `${parseInt(digits, 16)}` : digits];
+  }));
+}
+
 function parameters(library, bytes, context) {
-  const reading = readBytes(library, bytes, { mode: "params", side: context.from === "client" ? "server" : "client" });
-  const { record } = reading;
-  if (!record) {
+  const side = context.from === "client" ? "server" : "client";
+  const reading = readBytes(library, bytes, { mode: "params", quinn: true, side });
+  if (reading.error) {
     return "invalid TRANSPORT_PARAMETER_ERROR";
   }
-  const out = {};
-  for (const [name, value] of Object.entries(record)) {
-    const isThere = !(name in PRESENT) || record.present & PRESENT[name];
-    if (!isThere || name === "present" || name === "reserved" || name.endsWith("_cidlen")) continue;
-    const length = record[`${name}len`];
-    out[PARAMETERS[name] ?? name] = value instanceof Uint8Array ? hex(value.subarray(0, length)) : `${value}`;
-  }
-  for (const [name, bit] of Object.entries(FLAGS)) {
-    if (record.present & bit) out[name] = "1";
-  }
-  return valid(out);
+  const known = itemsOf(reading, (item) => ({ ...item, ...parameterOf(item.kind) }));
+  const entries = known.filter(({ kind }) => kind !== "other").map((item) => entryOf(item, bytes));
+  return valid(Object.assign({}, ...entries));
 }
 
 function shortest(library, bytes) {
   library.hold(bytes);
-  const { bytes: found } = library.canonical();
+  const { bytes: found } = library.canonical({ quinn: true });
   return found ? valid(hex(found)) : "invalid";
 }
 

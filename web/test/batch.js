@@ -15,6 +15,7 @@ if (!document.documentElement.dataset.whole) {
 
 function setForm() {
   elements.mode.value = form.mode;
+  elements.quinn.checked = form.quinn ?? false;
   elements.strict.checked = form.strict ?? false;
   elements.idLength.value = form.idLength ?? 8;
   elements.side.value = form.side ?? "client";

@@ -76,11 +76,35 @@ class Browser:
         self.send("act", {"actions": [{"type": "pointer", "id": "mouse", "actions": actions}]})
 
 
-class Chromium(Browser):
+class Driven(Browser):
+    """A browser with a driver that speaks WebDriver, at |base|."""
+
+    COMMANDS = {"navigate": "url", "run": "execute/sync", "act": "actions", "print": "print"}
+
+    def http(self, method, path, body=None):
+        data = None if body is None else json.dumps(body).encode()
+        request = urllib.request.Request(self.base + path, data, {"Content-Type": "application/json"}, method=method)
+        try:
+            with urllib.request.urlopen(request, timeout=900) as answer:
+                return json.load(answer)["value"]
+        except urllib.error.HTTPError as error:
+            raise Failed(json.load(error)["value"]["message"]) from None
+
+    def send(self, command, body):
+        return self.http("POST", f"{self.session}/{self.COMMANDS[command]}", body)
+
+    def close(self):
+        with contextlib.suppress(Exception):
+            self.http("DELETE", self.session)
+        self.driver.terminate()
+        self.driver.wait()
+        shutil.rmtree(self.profile, ignore_errors=True)
+
+
+class Chromium(Driven):
     """Chromium, through Debian's chromium-driver."""
 
     name = "Chromium"
-    COMMANDS = {"navigate": "url", "run": "execute/sync", "act": "actions", "print": "print"}
 
     def __init__(self):
         self.profile = tempfile.mkdtemp()
@@ -113,18 +137,6 @@ class Chromium(Browser):
         self.session = f"/session/{session['sessionId']}"
         self.devtools("Browser.setDownloadBehavior", behavior="allow", downloadPath=f"{self.profile}/saved")
         self.version = session["capabilities"]["browserVersion"]
-
-    def http(self, method, path, body=None):
-        data = None if body is None else json.dumps(body).encode()
-        request = urllib.request.Request(self.base + path, data, {"Content-Type": "application/json"}, method=method)
-        try:
-            with urllib.request.urlopen(request, timeout=900) as answer:
-                return json.load(answer)["value"]
-        except urllib.error.HTTPError as error:
-            raise Failed(json.load(error)["value"]["message"]) from None
-
-    def send(self, command, body):
-        return self.http("POST", f"{self.session}/{self.COMMANDS[command]}", body)
 
     def devtools(self, command, **params):
         return self.http("POST", f"{self.session}/goog/cdp/execute", {"cmd": command, "params": params})
@@ -166,12 +178,42 @@ class Chromium(Browser):
         self.devtools("Emulation.clearDeviceMetricsOverride")
         self.media()
 
-    def close(self):
-        with contextlib.suppress(Exception):
-            self.http("DELETE", self.session)
-        self.driver.terminate()
-        self.driver.wait()
-        shutil.rmtree(self.profile, ignore_errors=True)
+
+class WebKit(Driven):
+    """WebKitGTK, through its own driver, in a screen that nobody sees."""
+
+    name = "WebKitGTK"
+
+    def __init__(self):
+        self.profile = tempfile.mkdtemp()
+        with socket.socket() as free:
+            free.bind(("127.0.0.1", 0))
+            port = free.getsockname()[1]
+        quiet = {"stdout": subprocess.DEVNULL, "stderr": subprocess.DEVNULL}
+        self.driver = subprocess.Popen(
+            ["xvfb-run", "-a", "WebKitWebDriver", f"--port={port}"], env={**os.environ, "HOME": self.profile}, **quiet)
+        self.base = f"http://127.0.0.1:{port}"
+        self.session = None
+        try:
+            self.begin()
+        except BaseException:
+            self.close()
+            raise
+
+    def begin(self):
+        end = time.monotonic() + PATIENCE
+        while time.monotonic() < end and self.driver.poll() is None:
+            with contextlib.suppress(OSError):
+                self.http("GET", "/status")
+                break
+            time.sleep(0.1)
+        session = self.http("POST", "/session", {"capabilities": {"alwaysMatch": {"timeouts": {"script": 600000}}}})
+        self.session = f"/session/{session['sessionId']}"
+        self.version = session["capabilities"]["browserVersion"]
+
+    def errors(self):
+        """The driver doesn't pass on the console."""
+        return []
 
 
 class Firefox(Browser):
@@ -181,7 +223,7 @@ class Firefox(Browser):
     PREFERENCES = [
         ("marionette.port", "0"), ("datareporting.policy.dataSubmissionEnabled", "false"),
         ("browser.download.folderList", "2"), ("browser.download.alwaysOpenPanel", "false"),
-        ("browser.helperApps.neverAsk.saveToDisk", '"image/svg+xml"'),
+        ("browser.helperApps.neverAsk.saveToDisk", '"image/svg+xml,application/x-ndjson"'),
         ("browser.download.always_ask_before_handling_new_types", "false"),
         ("network.dns.localDomains", f'"{ELSEWHERE}"'),
     ]

@@ -136,6 +136,21 @@ CHOICES = [
     ({"mode": "params", "side": "server"}, "1000", "RFC 9000, section 18.2."),
     ({"mode": "frames"}, "000001", "2 frames (a run of PADDING is one) in 3 bytes"),
 ]
+# As RFC 9000 reads: what quinn-proto accepts, and what it rejects.
+BY_RFC = [
+    ({"mode": "frames"}, "0700", "Error at byte 1: malformed in NEW_TOKEN. The token is empty."),
+    ({"mode": "frames"}, "0700", "RFC 9000, section 19.7."),
+    # 2^60 + 1 streams.
+    ({"mode": "frames"}, "12d000000000000001", "limit exceeded in MAX_STREAMS_BIDI. It is greater than 2^60."),
+    ({"mode": "frames"}, "12d000000000000001", "RFC 9000, section 19.11."),
+    ({"mode": "frames"}, "1f", "invalid frame ID in IMMEDIATE_ACK. The ACK frequency extension wasn't negotiated."),
+    ({"mode": "frames"}, "4001", "Error at byte 0: frame type not in shortest form in PING."),
+    ({"mode": "datagram", "idLength": 1}, "000102", "1 packet in 3 bytes"),
+    ({"mode": "datagram", "versions": "1"}, "f00000000100000102", "Error at byte 7: Retry without a token or a tag."),
+    ({"mode": "datagram", "versions": "1"}, "f00000000100000102", "RFC 9000, section 17.2.5.2"),
+    ({"mode": "params", "side": "client"}, "0102400a", "1 parameter in 4 bytes"),
+]
+NOTE = "return document.querySelector('#outline .note')?.textContent"
 STRIP = "return document.querySelector('#outline svg').getAttribute('aria-label')"
 
 
@@ -143,13 +158,20 @@ def choices(browser, address):
     """Versions, the fixed bit and lengths of ids have an effect, bounds are named; the strip says what it draws."""
     browser.go(f"{address}#read=datagram")
     for form, text, want in CHOICES:
-        set_form(browser, form, text)
+        set_form(browser, {"quinn": True, **form}, text)
         status = browser.run(STATUS)
         if want not in status:
             raise Failed(f"{form} {text}: {status!r}")
+    for form, text, want in BY_RFC:
+        set_form(browser, {"quinn": False, **form}, text)
+        status = browser.run(STATUS)
+        if want not in status:
+            raise Failed(f"by the RFC {form} {text}: {status!r}")
+    set_form(browser, {"quinn": False, "mode": "datagram", "idLength": 1}, "000102")
+    same(browser.run(NOTE), "the fixed bit is 0, as RFC 9287 allows", "a clear fixed bit")
     set_form(browser, {"mode": "frames"}, "02406419020301" "0a0502")
     same(browser.run(STRIP), "18 of 26 packets, in 3 ranges", "the strip")
-    return len(CHOICES)
+    return len(CHOICES) + len(BY_RFC)
 
 
 # The mode, a line, and the mode that a button offers. The datagrams begin with a long header of a known version, of an
@@ -183,15 +205,17 @@ def hints(browser, address):
 # ---- links
 
 STATES = [
-    ({"mode": "frames", "strict": True}, "40000a000161"), ({"mode": "frames", "strict": False}, ""),
-    ({"mode": "datagram", "idLength": 4, "grease": True, "versions": "1 6b3343cf"}, "4001020304ffff"),
-    ({"mode": "datagram", "idLength": 20, "grease": False, "versions": "1a2a3a4a"}, "c31a2a3a4a0000"),
+    ({"mode": "frames", "quinn": True, "strict": True}, "40000a000161"), ({"mode": "frames", "strict": False}, ""),
+    ({"mode": "datagram", "quinn": True, "idLength": 4, "grease": True, "versions": "1 6b3343cf"}, "4001020304ffff"),
+    ({"mode": "datagram", "idLength": 20, "versions": "1a2a3a4a"}, "c31a2a3a4a0000"),
+    ({"mode": "params", "quinn": True, "side": "client"}, "0102400a"), ({"mode": "frames"}, "40000a000161"),
     ({"mode": "params", "side": "server"}, "01 04 80 00 75 30"), ({"mode": "frames"}, "no bytes & more #?"),
     ({"mode": "frames"}, "01\n4001\n1e0101"), ({"mode": "frames"}, "10:00 sent 0x40000a00\n10:01 sent 0x01010101"),
     ({"mode": "frames"}, "40000a00\n0161"), ({"mode": "datagram", "compare": True, "idLength": 0}, "4001020304"),
 ]
 SHOWN = """const { elements } = document.getElementById("form"); document.getElementById("text").open = true;
-    return [elements.mode.value, elements.mode.value !== "frames" || elements.strict.checked, elements.idLength.value,
+    return [elements.mode.value, elements.quinn.checked, elements.mode.value !== "frames" || elements.strict.checked,
+      elements.idLength.value,
       elements.versions.value, elements.mode.value !== "datagram" || elements.grease.checked, elements.side.value,
       elements.compare.checked, document.querySelectorAll("#list .entry").length,
       document.getElementById("status").textContent.replace(/, read as.*/, "")];"""

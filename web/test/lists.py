@@ -8,15 +8,16 @@ import sys
 MUTATED = 10000
 SEED = 9000
 
-# The arguments of each command of quic-show, and the settings of the page that show the same.
+# The arguments of each command of quic-show, and the settings of the page that show the same: quic-show reads as
+# quinn-proto does.
 FORMS = {
-    "frames": {"mode": "frames"},
-    "strict": {"mode": "frames", "strict": True},
-    "datagram 0": {"mode": "datagram", "idLength": 0},
-    "datagram 8": {"mode": "datagram", "idLength": 8},
-    "datagram 20": {"mode": "datagram", "idLength": 20},
-    "params client": {"mode": "params", "side": "client"},
-    "params server": {"mode": "params", "side": "server"},
+    "frames": {"mode": "frames", "quinn": True},
+    "strict": {"mode": "frames", "quinn": True, "strict": True},
+    "datagram 0": {"mode": "datagram", "quinn": True, "idLength": 0},
+    "datagram 8": {"mode": "datagram", "quinn": True, "idLength": 8},
+    "datagram 20": {"mode": "datagram", "quinn": True, "idLength": 20},
+    "params client": {"mode": "params", "quinn": True, "side": "client"},
+    "params server": {"mode": "params", "quinn": True, "side": "server"},
 }
 
 

@@ -22,7 +22,7 @@ CLICKED = ["#grid .byte", "#grid .byte.fault", "#grid .byte.differs", "#outline 
 
 def states(browser, address):
     """Shows the page in each state in turn: wrong, lit, chosen, beside, opened."""
-    for fragment in ("read=frames&hex=40000a000161", "read=frames&hex=02406419000301ff", "read=frames&text=zz",
+    for fragment in ("read=frames&quinn=1&hex=40000a000161", "read=frames&hex=02406419000301ff", "read=frames&text=zz",
                      "read=datagram&hex=c3000000010000", "read=params&hex=0104800075302201ff",
                      "read=frames&hex=01.4001.40&at=2", "read=datagram&hex=c3&versions=x&ids=99"):
         browser.go(f"{address}#{fragment}")
@@ -212,7 +212,7 @@ def active_names(browser):
             const at = document.getElementById(box.getAttribute("aria-activedescendant"));
             return at.getAttribute("aria-label") ?? at.textContent;"""
         same(browser.run(label), wanted, f"what {box} says")
-    set_form(browser, {"mode": "frames"}, "4001")
+    set_form(browser, {"mode": "frames", "quinn": True}, "4001")
     browser.run(POINT, "#grid [data-place='0']")
     label = "return document.getElementById('grid-0').getAttribute('aria-label')"
     same(browser.run(label), "byte 0, 40, Type of PING, differs", "a byte that differs")

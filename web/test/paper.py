@@ -41,7 +41,8 @@ def widths(browser, address):
     """Nothing is cut off at any width, and a list that continues says so. Returns how many pages were checked."""
     count = 0
     for width in WIDTHS:
-        browser.go(address)
+        # With all choices, and what quic-show prints.
+        browser.go(f"{address}#read=frames&quinn=1&hex=01")
         browser.width(width)
         browser.until("return window.innerWidth === arguments[0]", f"a window of {width} pixels", width)
         for example in show_all(browser):
@@ -61,7 +62,7 @@ def widths(browser, address):
 
 def turned_page(browser):
     """The text at the end of a list scrolls on, and is gone at the end."""
-    set_form(browser, {"mode": "frames"}, "0a0004616263644001" * 40)
+    set_form(browser, {"mode": "frames", "quinn": True}, "0a0004616263644001" * 40)
     for box in ("grid", "outline"):
         last = browser.run("""const box = document.getElementById(arguments[0]);
             for (let turn = 0; turn < 200 && !box.querySelector(".more").hidden; turn += 1) {
@@ -111,7 +112,7 @@ def on_paper(browser, address):
     """Every row is printed, in the colours of the light page, although backgrounds aren't asked for."""
     browser.media(**{"prefers-color-scheme": "light"})
     browser.go(address)
-    set_form(browser, {"mode": "frames"}, "0a0004616263644001" * 56)
+    set_form(browser, {"mode": "frames", "quinn": True}, "0a0004616263644001" * 56)
     wanted = [tuple(map(int, color.split())) for color in browser.run(PRINTED)]
     browser.media(**{"prefers-color-scheme": "dark"})
     document = base64.b64decode(browser.send("print", {"background": False}))

@@ -1,7 +1,8 @@
-"""run.py TOP SITE QUIC_SHOW LAYOUT [--pictures FOLDER] [--browser NAME]: tries the page in browsers.
+"""run.py TOP SITE QUIC_SHOW QUIC_WIRE LAYOUT [--pictures FOLDER] [--browser NAME]: tries the page.
 
-TOP is the repository, SITE the folder that scripts/web made, QUIC_SHOW the program that it is compared with, LAYOUT
-what layout.c printed.
+TOP is the repository, SITE the folder that scripts/web made, with the library's module quic_wire.wasm if the call of
+docs/CALLING.md is to be tried, QUIC_SHOW and QUIC_WIRE the programs that the page is compared with, LAYOUT what
+layout.c printed.
 """
 import argparse
 import http.server
@@ -12,6 +13,7 @@ import sys
 import threading
 
 import agree
+import captures
 import initials
 import inputs
 import lists
@@ -21,7 +23,7 @@ import sizes
 import structs
 import tools
 import use
-from browser import Chromium, ELSEWHERE, Failed, Firefox
+from browser import Chromium, ELSEWHERE, Failed, Firefox, WebKit
 from common import STATUS, same
 
 PICTURES = [
@@ -84,8 +86,10 @@ def pages(browser, host, words):
     use.all_by_keyboard(browser, address)
     use.pointer(browser, address)
     print(f"  keyboard and pointer; {inputs.links(browser, address)} links")
-    print(f"  {structs.layout(browser, host, words.layout_lines)} lines of the structs' layout; the call of CALLING.md")
-    structs.worked_call(browser, words.top)
+    print(f"  {structs.layout(browser, host, words.layout_lines)} lines of the structs' layout")
+    if os.path.exists(f"{words.site}/quic_wire.wasm"):
+        structs.worked_call(browser, words.top)
+        print("  the call of CALLING.md")
     silent(browser, "all of these")
 
 
@@ -95,8 +99,8 @@ def says_its_commit(browser, top):
     built = browser.run("return document.getElementById('built').textContent")
     if done.returncode == 0 and done.stdout.strip() not in built:
         raise Failed(f"the page says of itself: {built}")
-    told = ["made without information" in built, "prover had shown" in built]
-    same(sorted(told), [False, True], f"what is said of the module's proof: {built}")
+    told = ["made without information" in built, "was built by rustc" in built]
+    same(sorted(told), [False, True], f"what is said of the module: {built}")
 
 
 def features(browser, host, top):
@@ -112,6 +116,17 @@ def features(browser, host, top):
     silent(browser, "these features")
     print(f"  {tools.sends_nothing(browser, address, host, Server.asked)} ways to send are blocked")
     browser.errors()
+
+
+def all_captures(browser, host, words):
+    """Captures, compared with what quic-wire prints."""
+    address, top, program = f"{host}/index.html", words.top, words.quic_wire
+    print(f"  {captures.shown(browser, address, top, program)} packets of a capture: rows, filters, bytes", flush=True)
+    print(f"  {captures.all_agree(browser, address, top, program)} captures are saved as it prints them", flush=True)
+    print(f"  {captures.broken_agree(browser, address, top, program)} captures with its findings", flush=True)
+    captures.rejected(browser, address, top)
+    print(f"  captures at {captures.widths(browser, address, top)} widths")
+    silent(browser, "captures")
 
 
 def times(browser, host):
@@ -152,7 +167,8 @@ def appearances(browser, host):
     silent(browser, "these looks")
 
 
-def take_pictures(browser, host, folder):
+def take_pictures(browser, host, words):
+    folder = words.pictures
     for name, width, height, scheme, example, target in PICTURES:
         browser.shape(width, height)
         browser.media(**{"prefers-color-scheme": scheme})
@@ -163,7 +179,10 @@ def take_pictures(browser, host, folder):
             browser.run("document.querySelector(arguments[0]).click()", target)
         browser.picture(f"{folder}/{name}", width, height, scheme)
     browser.unshape()
-    print(f"  {len(PICTURES)} pictures in {folder}")
+    browser.width(1280)
+    captures.picture(browser, f"{host}/index.html", words.top, f"{folder}/web-capture.png")
+    browser.unshape()
+    print(f"  {len(PICTURES) + 1} pictures in {folder}")
 
 
 def all_lists(browser, host, program, groups):
@@ -180,21 +199,35 @@ def try_browser(kind, words, host, groups):
         print(f"{browser.name} {browser.version}", flush=True)
         pages(browser, host, words)
         features(browser, host, words.top)
+        all_captures(browser, host, words)
         appearances(browser, host)
         times(browser, host)
         all_lists(browser, host, words.quic_show, groups)
         if kind is Chromium and words.pictures:
-            take_pictures(browser, host, words.pictures)
+            take_pictures(browser, host, words)
+    finally:
+        browser.close()
+
+
+def try_webkit(words, host):
+    """In WebKitGTK the page starts, from a server and from a file, and opens a capture."""
+    browser = WebKit()
+    try:
+        print(f"{browser.name} {browser.version}", flush=True)
+        for address in (f"{host}/index.html", f"file://{words.site}/index.html"):
+            browser.go(address)
+            print(f"  {browser.run(STATUS)}")
+            print(f"  {captures.shown(browser, address, words.top, words.quic_wire)} packets of a capture", flush=True)
     finally:
         browser.close()
 
 
 def arguments():
     words = argparse.ArgumentParser()
-    for name in ("top", "site", "quic_show", "layout"):
+    for name in ("top", "site", "quic_show", "quic_wire", "layout"):
         words.add_argument(name)
     words.add_argument("--pictures")
-    words.add_argument("--browser", choices=("chromium", "firefox"))
+    words.add_argument("--browser", choices=("chromium", "firefox", "webkit"))
     return words.parse_args()
 
 
@@ -209,6 +242,8 @@ def main():
     for name, kind in kinds.items():
         if words.browser in (None, name) and (name != "firefox" or shutil.which("firefox-esr")):
             try_browser(kind, words, host, groups)
+    if words.browser in (None, "webkit") and shutil.which("WebKitWebDriver") and shutil.which("xvfb-run"):
+        try_webkit(words, host)
 
 
 if __name__ == "__main__":

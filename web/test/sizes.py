@@ -109,7 +109,7 @@ def long_texts(browser, address, bound):
                              ("lines", f"{frames * 4}\n", "hexadecimal."),
                              ("a log", f"10:00 sent {frames * 4}\n", "in a line of a log. Input 1 of")):
         for left in reversed(range(2 * TRIES)):
-            browser.go(f"{address}#read=frames&hex=01")
+            browser.go(f"{address}#read=frames&quinn=1&hex=01")
             browser.run(TICKING, unit * (LONG // len(unit)))
             waited, shown_part, is_locked, is_silent = browser.until("return window.waited", f"{what} of 5 MB")
             if waited <= bound or left == 0:

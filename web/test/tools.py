@@ -86,7 +86,7 @@ DIFFERS = """return [...document.querySelectorAll(arguments[0] + " .byte.differs
 
 def compared(browser, address):
     """What differs between two inputs is marked in both, with a line and not only by colour."""
-    browser.go(f"{address}#read=frames&hex=01")
+    browser.go(f"{address}#read=frames&quinn=1&hex=01")
     turn(browser, "compare", True)
     for left, right, here, there in COMPARED:
         set_form(browser, {"mode": "frames"}, left)
@@ -184,7 +184,7 @@ def linked(browser):
 
 def sections(browser, address):
     """The section of every kind of frame, and of parts of packets and parameters."""
-    browser.go(f"{address}#read=frames&hex=01")
+    browser.go(f"{address}#read=frames&quinn=1&hex=01")
     count = 0
     for digits, section in SECTIONS.items():
         set_form(browser, {"mode": "frames"}, digits)

@@ -14,10 +14,10 @@ def stops(browser, count):
 
 def keyboard(browser, address):
     """A walk without a pointer: from the input box to the grid, along it, to the tree and back."""
-    browser.go(f"{address}#read=frames&hex=0205190002" "0a0003616263" "0161")
+    browser.go(f"{address}#read=frames&quinn=1&hex=0205190002" "0a0003616263" "0161")
     browser.run("document.getElementById('input').focus()")
-    order = stops(browser, 16)
-    same(order, ["strict", "compare", "clear", "link", "a payload", "a payload with an error",
+    order = stops(browser, 17)
+    same(order, ["strict", "quinn", "compare", "clear", "link", "a payload", "a payload with an error",
                  "a datagram of three packets", "a client’s Initial", "a server’s Initial", "a Retry",
                  "a packet to open", "a log", "a server’s transport parameters", "Show it", "save", "grid"],
          "the order of tabs")
@@ -62,6 +62,8 @@ def all_by_keyboard(browser, address):
     focus is visible."""
     browser.go(address)
     browser.run("document.activeElement.blur(); window.scrollTo(0, 0);")
+    browser.keys(TAB)
+    same(browser.run("return document.activeElement.id"), "door-bytes", "the doors come first")
     browser.keys(TAB, RIGHT)
     same(browser.run("return document.getElementById('form').elements.mode.value"), "datagram", "the mode by keys")
     browser.keys(TAB)

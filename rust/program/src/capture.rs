@@ -1,5 +1,5 @@
 //! The mode `capture`: the packets of captures, and the frames of those that there are keys for.
-mod json;
+pub mod json;
 pub mod keys;
 pub mod object;
 pub mod qlog;

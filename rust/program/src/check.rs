@@ -1,5 +1,5 @@
 //! The mode `check`: which packets of captures break which rules of RFC 9000.
-mod json;
+pub mod json;
 mod sarif;
 mod text;
 mod traces;
@@ -27,20 +27,20 @@ use text::Text;
 use traces::Traces;
 
 /// What is found in a capture.
-struct Whole<'a> {
+pub struct Whole<'a> {
     /// When it begins, in nanoseconds since 1970.
-    begun: u64,
-    report: &'a Report,
-    capture: &'a Capture,
-    counts: &'a Counts,
+    pub begun: u64,
+    pub report: &'a Report,
+    pub capture: &'a Capture,
+    pub counts: &'a Counts,
     /// How many rules were applied.
-    rules: usize,
+    pub rules: usize,
     /// The names of rules that may be broken, and why.
-    allowed: &'a [(String, String)],
+    pub allowed: &'a [(String, String)],
 }
 
 /// How what is found is written.
-trait Form {
+pub trait Form {
     /// The table of rules.
     fn rule(&mut self, rule: &'static Rule);
     fn capture(&mut self, name: &OsStr, whole: &Whole<'_>);

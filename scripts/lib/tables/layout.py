@@ -5,16 +5,16 @@ from lib.tables import compared, proved
 from lib.tables.formats import HEADER, filled, read
 
 PATH = "web/layout.js"
-BEGIN = f"""// Structs and constants of {HEADER} and arguments of calls, as they are in the module, whose pointers
-// and sizes have 64 bits.
+BEGIN = f"""// Structs and constants of {HEADER} and arguments of calls, as they are in the module for callers of C,
+// whose pointers and sizes have 64 bits. The page uses the constants.
 // Made by scripts/tables from the header and the crates: change nothing here. scripts/test-web compares the structs
 // with what layout.c prints.
 
 """
-# The structs that the page knows, and those of which it knows only the size.
+# The structs that a caller needs to read bytes, and those of which it needs only the size.
 STRUCTS = ["frame_iter", "frame", "range", "range_iter", "canon", "header", "params", "refusal", "span", "fields"]
 WITHOUT_FIELDS = {"params"}
-# The functions that it calls.
+# The functions with which it does.
 CALLS = {
     "frames_init", "frames_fill", "frame_read", "ack_ranges_init", "ack_ranges_fill", "canonical", "varint_read",
     "varint_len", "frame_fields", "packet_fields", "param_fields", "param_value_fields", "header_read",
@@ -23,23 +23,20 @@ CALLS = {
 # The constants, by the page's names for them.
 CONSTANTS = {
     "What calls return": {
-        "OK": "OK", "ITEM": "ITEM", "EMPTY": "ERR_PAYLOAD_EMPTY", "REASON_MALFORMED": "ERR_FRAME_MALFORMED",
-        "REASON_LONG_TYPE": "ERR_FRAME_LONG_TYPE", "PACKET_FIXED_BIT": "ERR_PACKET_FIXED_BIT",
-        "PACKET_MALFORMED_CID": "ERR_PACKET_CID", "PACKET_UNSUPPORTED_VERSION": "ERR_PACKET_VERSION",
-        "PACKET_CUT": "ERR_PACKET_CUT", "PARAMS_MALFORMED": "ERR_PARAMS_MALFORMED",
+        "OK": "OK", "ITEM": "ITEM", "REASON_MALFORMED": "ERR_FRAME_MALFORMED",
+        "REASON_LONG_TYPE": "ERR_FRAME_LONG_TYPE", "REASON_LIMIT": "ERR_FRAME_LIMIT",
+        "PACKET_FIXED_BIT": "ERR_PACKET_FIXED_BIT", "PACKET_MALFORMED_CID": "ERR_PACKET_CID",
+        "PACKET_UNSUPPORTED_VERSION": "ERR_PACKET_VERSION", "PACKET_CUT": "ERR_PACKET_CUT",
+        "PACKET_RETRY": "ERR_PACKET_RETRY", "PARAMS_MALFORMED": "ERR_PARAMS_MALFORMED",
         "PARAMS_ILLEGAL": "ERR_PARAMS_ILLEGAL",
     },
-    "Kinds of frames": {"PADDING": "FRAME_PADDING", "ACK": "FRAME_ACK", "NEW_CONNECTION_ID": "FRAME_NEW_CONNECTION_ID"},
+    "Kinds of frames": {"PADDING": "FRAME_PADDING", "ACK": "FRAME_ACK"},
     "Kinds of packets": {
         "INITIAL": "PACKET_INITIAL", "RETRY": "PACKET_RETRY", "SHORT": "PACKET_1RTT",
         "VERSION_NEGOTIATION": "PACKET_VERSION_NEGOTIATION",
     },
-    "Flags of readers": {"READ_SHORT_TYPES": "READ_SHORT_TYPES", "READ_GREASED_BIT": "READ_GREASED_BIT"},
     "A bit of a first byte": {"LONG_FORM": "BIT_LONG"},
-    "How many fields a call stores at most": {"MAX_FIELDS": "PACKET_FIELDS"},
-    "What stands for no type": {"NO_TYPE": "NO_TYPE"},
 }
-NUMBERS = {"UINT64_MAX": "2n ** 64n - 1n"}
 
 
 def struct(name, places):
@@ -62,7 +59,7 @@ def constants(words):
     source = read(HEADER)
     for name, word in words.items():
         number = re.search(rf"^(?:#define|  ?) *QUIC_WIRE_{word} (?:= )?(-?\w+)", source, re.M)[1].rstrip("u")
-        yield f"export const {name} = {NUMBERS.get(number, number)};\n"
+        yield f"export const {name} = {number};\n"
 
 
 def made(_):

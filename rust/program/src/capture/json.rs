@@ -1,7 +1,7 @@
 //! Objects for programs, a line each: docs/capture.schema.json of the repository describes them.
 use super::object::Object;
 use super::report::{Fault, Form, Packet, Part, Place, Sum, Tally, Whole, is_plain};
-use super::screen::Screen;
+use super::screen::Lines;
 use super::words::{self, Date, Said, Seconds};
 use crate::datagram;
 use crate::frames;
@@ -15,18 +15,18 @@ use std::collections::BTreeMap;
 use std::ffi::OsStr;
 
 /// Writes an object for each packet, each connection and each capture.
-pub struct Json<'s> {
-    screen: &'s Screen,
+pub struct Json<L> {
+    to: L,
     has_packets: bool,
     has_names: bool,
     name: String,
     line: String,
 }
 
-impl<'s> Json<'s> {
+impl<L: Lines> Json<L> {
     /// Packets, and the names of captures, can be left out.
-    pub fn new(screen: &'s Screen, has_packets: bool, has_names: bool) -> Self {
-        Json { screen, has_packets, has_names, name: String::new(), line: String::new() }
+    pub fn new(to: L, has_packets: bool, has_names: bool) -> Self {
+        Json { to, has_packets, has_names, name: String::new(), line: String::new() }
     }
 
     // Writes an object of a kind.
@@ -39,7 +39,7 @@ impl<'s> Json<'s> {
         fill(&mut object);
         object.end();
         self.line.push('\n');
-        self.screen.write(&self.line);
+        self.to.write(&self.line);
         self.line.clear();
     }
 }
@@ -189,7 +189,7 @@ fn how(sum: &Sum<'_>) -> &'static str {
     }
 }
 
-impl Form for Json<'_> {
+impl<L: Lines> Form for Json<L> {
     fn begin(&mut self, file: &OsStr) {
         self.name = file.to_string_lossy().into_owned();
     }

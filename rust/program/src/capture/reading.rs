@@ -86,8 +86,8 @@ fn threads(files: &[OsString]) -> usize {
     if files.iter().all(is_on_disk) { processors.min(files.len()) } else { 1 }
 }
 
-// An error, with the record after which it is.
-fn said(error: &InputError, records: u64) -> String {
+/// An error, with the record after which it is.
+pub fn said(error: &InputError, records: u64) -> String {
     match error {
         InputError::File(FileError::LongRecord { .. } | FileError::CutBlock { .. }) => error.to_string(),
         _ if records == 0 => error.to_string(),

@@ -74,8 +74,8 @@ impl Packet<'_> {
         })
     }
 
-    // Whether RFC 9000 rejects something in it.
-    fn is_rejected(&self) -> bool {
+    /// Whether RFC 9000 rejects something in it.
+    pub fn is_rejected(&self) -> bool {
         self.parts.iter().any(|part| match part {
             Part::Frame { forbidden, .. } => forbidden.is_some(),
             Part::Invalid(_) | Part::InvalidParameters(_) => true,
@@ -170,6 +170,11 @@ impl<'a> Report<'a> {
     /// Adds to the traces what else is known of a connection, before it is summed up.
     pub fn note(&mut self, connection: &Connection, time: u64, name: &str, fill: &dyn Fn(&mut Object<'_>)) {
         self.forms.iter_mut().for_each(|form| form.note(connection, time, name, fill));
+    }
+
+    /// When the capture begins, in nanoseconds since 1970; `None` until its first datagram.
+    pub fn begun(&self) -> Option<u64> {
+        self.begun
     }
 
     fn place<'p>(&self, owner: Option<(&'p Connection, Side)>, datagram: &'p Datagram<'p>, index: u64) -> Place<'p> {

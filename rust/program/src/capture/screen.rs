@@ -16,6 +16,12 @@ const ROOM: usize = 1 << 16;
 // How many bytes wait at most until the files before theirs are over.
 const MOST_WAITING: usize = 1 << 26;
 
+/// What takes whole lines.
+pub trait Lines {
+    /// Takes lines, each with its end.
+    fn write(&self, lines: &str);
+}
+
 /// Why nothing more is shown.
 pub enum Failure {
     /// Standard output can't be written to.
@@ -256,6 +262,12 @@ impl Screen {
     /// Removes what says that.
     pub fn clear(&self) {
         self.in_turn(State::clear);
+    }
+}
+
+impl Lines for &Screen {
+    fn write(&self, lines: &str) {
+        Screen::write(self, lines);
     }
 }
 

@@ -1,7 +1,7 @@
 //! Objects for programs, a line each: docs/check.schema.json of the repository describes them.
 use super::{Form, Whole};
 use crate::capture::object::Object;
-use crate::capture::screen::Screen;
+use crate::capture::screen::Lines;
 use crate::capture::words::{self, Seconds};
 use quic_wire_check::finding::Finding;
 use quic_wire_check::rule::{Level, Need, Rule, Section};
@@ -9,17 +9,17 @@ use quic_wire_check::vantage::Vantage;
 use std::ffi::OsStr;
 
 /// Writes an object for each finding, for each rule that was silent, and for each capture.
-pub struct Json<'s> {
-    screen: &'s Screen,
+pub struct Json<L> {
+    to: L,
     has_names: bool,
     name: String,
     line: String,
 }
 
-impl<'s> Json<'s> {
+impl<L: Lines> Json<L> {
     /// The names of captures can be left out.
-    pub fn new(screen: &'s Screen, has_names: bool) -> Self {
-        Json { screen, has_names, name: String::new(), line: String::new() }
+    pub fn new(to: L, has_names: bool) -> Self {
+        Json { to, has_names, name: String::new(), line: String::new() }
     }
 
     // Writes an object of a kind.
@@ -32,7 +32,7 @@ impl<'s> Json<'s> {
         fill(&mut object);
         object.end();
         self.line.push('\n');
-        self.screen.write(&self.line);
+        self.to.write(&self.line);
         self.line.clear();
     }
 
@@ -68,7 +68,7 @@ fn cite(object: &mut Object<'_>, level: Level, section: Section) {
     object.word("section", section.number);
 }
 
-impl Form for Json<'_> {
+impl<L: Lines> Form for Json<L> {
     fn rule(&mut self, rule: &'static Rule) {
         self.write("rule", |object| {
             object.word("rule", rule.name);

@@ -35,8 +35,8 @@ fn section(invalid: &InvalidFrame) -> &'static str {
     }
 }
 
-// What is wrong with a frame that quinn-proto accepts and RFC 9000 forbids.
-fn broken_rule(invalid: &InvalidFrame) -> Option<&'static str> {
+/// What is wrong with a frame that quinn-proto accepts and RFC 9000 forbids.
+pub fn broken_rule(invalid: &InvalidFrame) -> Option<&'static str> {
     match (invalid.reason, u64::from(invalid.ty?)) {
         (INVALID_TYPE, 0x1f | 0xaf) => Some("the ACK frequency extension wasn't negotiated"),
         (MALFORMED, 0x07) => Some("the token is empty"),

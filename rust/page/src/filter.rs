@@ -1,0 +1,202 @@
+//! Which packets a page lists, by words that people write.
+
+use crate::table::{Row, Table};
+use quic_wire::Side;
+use std::fmt::Write;
+use std::ops::RangeInclusive;
+
+/// One word of a filter.
+#[derive(Clone, Debug, PartialEq)]
+enum What {
+    Sender(Side),
+    Lost,
+    Acknowledged,
+    Unacknowledged,
+    Rejected,
+    Broken,
+    Opened,
+    Number(RangeInclusive<u64>),
+    Record(RangeInclusive<u64>),
+    Connection(u64),
+    Kind(String),
+    Text(String),
+}
+
+/// Packets that have all that is written.
+#[derive(Clone, Debug, Default, PartialEq)]
+pub struct Filter(Vec<(bool, What)>);
+
+impl Filter {
+    /// Reads what someone wrote.
+    ///
+    /// # Errors
+    ///
+    /// If a word's number can't be read: what is wrong, in words.
+    pub fn parse(text: &str) -> Result<Filter, String> {
+        let words = words(&text.to_lowercase()).into_iter().map(|(word, is_quoted)| {
+            let (is_wanted, word) = match word.strip_prefix('-') {
+                Some(rest) if !rest.is_empty() && !is_quoted => (false, rest),
+                _ => (true, &word[..]),
+            };
+            Ok((is_wanted, if is_quoted { What::Text(word.into()) } else { what(word)? }))
+        });
+        words.collect::<Result<_, String>>().map(Filter)
+    }
+
+    /// Whether it lets all packets through.
+    pub fn is_empty(&self) -> bool {
+        self.0.is_empty()
+    }
+
+    /// What it lets through, in words.
+    pub fn explain(&self) -> String {
+        let mut text = String::from("all packets");
+        for (place, (is_wanted, what)) in self.0.iter().enumerate() {
+            let before = if place == 0 { " " } else { ", " };
+            let not = if *is_wanted { "" } else { "except those " };
+            let _ = write!(text, "{before}{not}{}", explained(what));
+        }
+        text
+    }
+
+    /// Whether a row has all of it. `is_broken` says whether a rule is broken there.
+    pub fn fits(&self, table: &Table, row: &Row, is_broken: bool) -> bool {
+        self.0.iter().all(|(is_wanted, what)| *is_wanted == has(what, table, row, is_broken))
+    }
+}
+
+// The words of a text, and whether they were in quotation marks.
+fn words(text: &str) -> Vec<(String, bool)> {
+    let mut words = Vec::new();
+    let parts = text.split(['"', '“', '”']).enumerate();
+    for (place, part) in parts {
+        match place % 2 {
+            0 => words.extend(part.split_whitespace().map(|word| (word.into(), false))),
+            _ => words.extend((!part.trim().is_empty()).then(|| (part.trim().into(), true))),
+        }
+    }
+    words
+}
+
+fn what(word: &str) -> Result<What, String> {
+    let (name, value) = match word.strip_prefix('#') {
+        Some(value) => ("#", Some(value)),
+        None => word.split_once([':', '=']).map_or((word, None), |(name, value)| (name, Some(value))),
+    };
+    let range = |value: &str| range(value).ok_or_else(|| format!("{word:?}: {value:?} isn't a number or a range"));
+    Ok(match (name, value) {
+        ("client", None) => What::Sender(Side::Client),
+        ("server", None) => What::Sender(Side::Server),
+        ("lost", None) => What::Lost,
+        ("acked" | "acknowledged", None) => What::Acknowledged,
+        ("unacked", None) => What::Unacknowledged,
+        ("rejected", None) => What::Rejected,
+        ("broken", None) => What::Broken,
+        ("opened", None) => What::Opened,
+        ("pn" | "number", Some(value)) => What::Number(range(value)?),
+        ("#" | "record", Some(value)) => What::Record(range(value)?),
+        ("c" | "connection", Some(value)) => What::Connection(*range(value)?.start()),
+        ("type", Some(value)) => What::Kind(value.into()),
+        _ => What::Text(word.into()),
+    })
+}
+
+fn range(value: &str) -> Option<RangeInclusive<u64>> {
+    let (first, last) = value.split_once('-').unwrap_or((value, value));
+    let number = |text: &str| text.parse().ok().filter(|_| text.bytes().all(|byte| byte.is_ascii_digit()));
+    Some(number(first)?..=number(last)?).filter(|range| range.start() <= range.end())
+}
+
+fn has(what: &What, table: &Table, row: &Row, is_broken: bool) -> bool {
+    match what {
+        What::Sender(side) => row.owner.is_some_and(|owner| owner.1 == *side),
+        What::Lost => row.lost.is_some(),
+        What::Acknowledged => row.acknowledged.is_some(),
+        What::Unacknowledged => row.inside.is_some() && row.acknowledged.is_none(),
+        What::Rejected => row.is_rejected,
+        What::Broken => is_broken,
+        What::Opened => row.inside.is_some(),
+        What::Number(range) => row.number.is_some_and(|number| range.contains(&number)),
+        What::Record(range) => range.contains(&row.record),
+        What::Connection(number) => row.owner.is_some_and(|owner| u64::from(owner.0) == *number),
+        What::Kind(name) => row.kind.to_lowercase().starts_with(name),
+        What::Text(text) => contains(table.text(row), text) || contains(row.kind, text),
+    }
+}
+
+// Whether a text has another one, which is in lower case.
+fn contains(text: &str, wanted: &str) -> bool {
+    let (text, wanted) = (text.as_bytes(), wanted.as_bytes());
+    text.windows(wanted.len().max(1)).any(|part| part.eq_ignore_ascii_case(wanted))
+}
+
+fn explained(what: &What) -> String {
+    let numbers = |range: &RangeInclusive<u64>| match range.start() == range.end() {
+        true => range.start().to_string(),
+        false => format!("{} to {}", range.start(), range.end()),
+    };
+    match what {
+        What::Sender(Side::Client) => "of the client".into(),
+        What::Sender(Side::Server) => "of the server".into(),
+        What::Lost => "that counted as lost".into(),
+        What::Acknowledged => "that were acknowledged".into(),
+        What::Unacknowledged => "that weren't acknowledged in the capture".into(),
+        What::Rejected => "that weren't opened, or in which something is rejected".into(),
+        What::Broken => "at which a rule was found broken".into(),
+        What::Opened => "that were opened".into(),
+        What::Number(range) => format!("with the number {}", numbers(range)),
+        What::Record(range) => format!("of the record {}", numbers(range)),
+        What::Connection(number) => format!("of connection {number}"),
+        What::Kind(name) => format!("whose type begins with “{name}”"),
+        What::Text(text) => format!("with “{text}” in the text"),
+    }
+}
+
+#[cfg(test)]
+mod tests {
+    use super::*;
+
+    #[test]
+    fn words_are_read() {
+        let rows = [
+            ("client", What::Sender(Side::Client)),
+            ("PN:17", What::Number(17..=17)),
+            ("pn=5-9", What::Number(5..=9)),
+            ("#9", What::Record(9..=9)),
+            ("c:2", What::Connection(2)),
+            ("type:Initial", What::Kind("initial".into())),
+            ("Stream", What::Text("stream".into())),
+            ("\"STREAM 4\"", What::Text("stream 4".into())),
+            ("\"client\"", What::Text("client".into())),
+        ];
+        for (text, wanted) in rows {
+            assert_eq!(Filter::parse(text), Ok(Filter(vec![(true, wanted)])), "{text}");
+        }
+        assert_eq!(Filter::parse("-lost"), Ok(Filter(vec![(false, What::Lost)])));
+        assert_eq!(Filter::parse("  "), Ok(Filter::default()));
+    }
+
+    #[test]
+    fn numbers_that_are_none_are_reported() {
+        for text in ["pn:x", "pn:", "#-1", "c:9-5", "pn:18446744073709551616"] {
+            let error = Filter::parse(text).unwrap_err();
+            assert!(error.ends_with("isn't a number or a range"), "{text}: {error}");
+        }
+    }
+
+    #[test]
+    fn it_says_what_it_lets_through() {
+        let filter = Filter::parse("client -lost pn:3-5 \"stream 0\"").unwrap();
+        let numbers = "with the number 3 to 5, with “stream 0” in the text";
+        assert_eq!(
+            filter.explain(),
+            format!("all packets of the client, except those that counted as lost, {numbers}")
+        );
+    }
+
+    #[test]
+    fn texts_are_found_in_any_case() {
+        assert!(contains("STREAM 4 0..9", "stream 4"));
+        assert!(!contains("", "a") && !contains("ab", "abc"));
+    }
+}

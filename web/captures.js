@@ -1,0 +1,306 @@
+// The page's second door: captures and key logs, which a worker reads, and what is found in them.
+
+import { CaptureList } from "./capture-list.js";
+import { addCards, CARDS, moreText, unopenedTexts } from "./connections.js";
+import { DatagramView } from "./datagram.js";
+import { showFindings } from "./findings.js";
+import { saveBlob } from "./picture.js";
+import { count } from "./shown.js";
+import { Timeline } from "./timeline.js";
+
+// What files begin with that are captures: pcap in both byte orders, with microseconds or nanoseconds; pcapng; gzip.
+const MAGIC_NUMBERS = ["a1b2c3d4", "d4c3b2a1", "a1b23c4d", "4d3cb2a1", "0a0d0d0a"];
+const COMPRESSED = "1f8b";
+// A key log of more bytes isn't read. Its beginning must have a line of a secret.
+const MOST_KEYS = 1 << 28;
+const BEGINNING_OF_KEYS = 1 << 20;
+const SECRET_LINE = /^[A-Z][A-Z0-9_]* [0-9a-fA-F]{64} [0-9a-fA-F]+/m;
+const NO_WORKERS = "This browser has no workers, in which captures are read.";
+
+const sizeText = (bytes) => (bytes < 1e6 ? `${(bytes / 1e3).toFixed(1)} kB` : `${(bytes / 1e6).toFixed(1)} MB`);
+
+async function isCapture(file) {
+  const bytes = new Uint8Array(await file.slice(0, 4).arrayBuffer());
+  const front = [...bytes].map((byte) => byte.toString(16).padStart(2, "0")).join("");
+  return MAGIC_NUMBERS.includes(front) || front.startsWith(COMPRESSED);
+}
+
+// The bytes of a key log.
+async function keyLogOf(file) {
+  if (file.size > MOST_KEYS) {
+    throw new Error(`${file.name} is no capture, and too long for a key log`);
+  }
+  const bytes = new Uint8Array(await file.arrayBuffer());
+  if (!SECRET_LINE.test(new TextDecoder().decode(bytes.subarray(0, BEGINNING_OF_KEYS)))) {
+    throw new Error(`${file.name} is neither a capture (pcap, pcapng, also compressed by gzip) nor a key log`);
+  }
+  return bytes;
+}
+
+export class Captures {
+  // |byId| finds elements; |worker| makes a worker; |libraries| read the bytes that are shown; |columns| says how many
+  // bytes are in a row.
+  constructor(byId, { module, worker, libraries, columns }) {
+    Object.assign(this, { byId, module, makeWorker: worker, columns });
+    // |run| is the number of the capture that is read: answers about another one are late.
+    Object.assign(this, { worker: null, file: null, keyLogs: [], summary: null, run: 0 });
+    const boxes = {
+      list: byId("packets"), head: byId("packets-head"), filter: byId("filter"), note: byId("filter-note"),
+    };
+    this.list = new CaptureList(boxes, (type, message) => this.ask(type, message), ({ index }) => this.open(index));
+    this.timeline = new Timeline(byId("timeline"), {
+      choose: (index) => this.list.goTo(index), spot: (text) => { byId("timeline-spot").textContent = text; },
+    });
+    this.datagram = new DatagramView({
+      section: byId("packet"), title: byId("packet-title"), note: byId("packet-note"), broken: byId("packet-broken"),
+      views: byId("packet-views"), grid: byId("packet-grid"), outline: byId("packet-outline"),
+      payload: byId("payload"), payloadTitle: byId("payload-title"), payloadGrid: byId("payload-grid"),
+      payloadOutline: byId("payload-outline"), inspector: byId("packet-inspector"),
+    }, libraries);
+  }
+
+  start() {
+    const { byId } = this;
+    byId("files").addEventListener("change", (event) => this.take([...event.target.files]));
+    byId("stop").addEventListener("click", () => this.ask("stop"));
+    byId("save-objects").addEventListener("click", () => this.save());
+    byId("more-connections").addEventListener("click", () => this.askCards());
+    byId("whole-timeline").addEventListener("click", () => this.timeline.all());
+    const page = document.documentElement;
+    page.addEventListener("dragover", (event) => this.drag(event, true));
+    page.addEventListener("dragleave", (event) => this.drag(event, false));
+    page.addEventListener("drop", (event) => this.drop(event));
+    this.say("No capture yet. A pcapng file may contain its keys; other captures need a key log (SSLKEYLOGFILE).");
+  }
+
+  // Starts the worker, which gets the module's bytes.
+  begin() {
+    if (typeof Worker === "undefined") {
+      throw new Error(NO_WORKERS);
+    }
+    this.worker = this.makeWorker();
+    this.worker.addEventListener("message", ({ data: { type, run, ...message } }) => {
+      if (run === this.run) {
+        this.receive(type, message);
+      }
+    });
+    const failed = ({ message = "the worker doesn’t start" }) => this.failed({ text: message });
+    this.worker.addEventListener("error", failed);
+    this.ask("start", { module: this.module });
+  }
+
+  ask(type, message = {}) {
+    this.worker?.postMessage({ type, run: this.run, ...message });
+  }
+
+  receive(type, message) {
+    const takers = {
+      progress: () => this.progress(message), ready: () => this.ready(message),
+      failed: () => this.failed(message), filtered: () => this.list.filtered(message),
+      rows: () => this.list.take(message), position: () => this.list.found(message),
+      cards: () => this.cards(message), points: () => this.points(message), detail: () => this.detail(message),
+      saved: () => this.saved(message), cancelled: () => this.cancelled(),
+    };
+    takers[type]();
+  }
+
+  say(text, isBad = false) {
+    const box = this.byId("capture-status");
+    box.classList.toggle("bad", isBad);
+    box.textContent = text;
+  }
+
+  set state(state) {
+    document.documentElement.dataset.capture = state;
+    this.byId("stop").hidden = state !== "reading" && state !== "saving";
+    this.byId("progress").hidden = this.byId("stop").hidden;
+  }
+
+  // ---- files
+
+  drag(event, isOver) {
+    if (event.dataTransfer?.types.includes("Files")) {
+      event.preventDefault();
+      this.byId("drop").classList.toggle("over", isOver);
+    }
+  }
+
+  drop(event) {
+    this.drag(event, false);
+    const files = [...event.dataTransfer?.files ?? []];
+    if (files.length > 0) {
+      this.byId("door-captures").click();
+      this.take(files);
+    }
+  }
+
+  // Takes files: a capture, and key logs, which stay for the captures after it.
+  async take(files) {
+    try {
+      const captures = [];
+      for (const file of files) {
+        if (await isCapture(file)) {
+          captures.push(file);
+        } else {
+          this.keyLogs.push({ name: file.name, bytes: await keyLogOf(file) });
+        }
+      }
+      this.choice = captures;
+      this.file = captures[0] ?? this.file;
+      this.showFiles(captures);
+      if (this.file) {
+        this.read({ file: this.file });
+      } else {
+        this.say(`${this.keysText()}. Add the capture.`);
+      }
+    } catch (error) {
+      this.failed({ text: error.message });
+    }
+  }
+
+  keysText() {
+    return this.keyLogs.length === 0 ? "no key log" : `with ${this.keyLogs.map(({ name }) => name).join(", ")}`;
+  }
+
+  // Of several captures one is shown; the others are a click away.
+  showFiles(captures) {
+    const box = this.byId("other-captures");
+    box.hidden = captures.length < 2;
+    box.replaceChildren(...captures.map((file) => {
+      const button = document.createElement("button");
+      Object.assign(button, { type: "button", textContent: file.name });
+      button.addEventListener("click", () => {
+        this.file = file;
+        this.read({ file });
+      });
+      return button;
+    }));
+  }
+
+  read({ file, bytes }) {
+    if (this.worker === null) {
+      this.begin();
+    }
+    this.summary = null;
+    this.run += 1;
+    this.list.forget();
+    this.datagram.hide();
+    for (const id of ["overview", "found", "table", "times"]) {
+      this.byId(id).hidden = true;
+    }
+    this.state = "reading";
+    this.byId("progress").value = 0;
+    this.say(`Reading ${this.file.name} …`);
+    this.ask("open", { file, bytes, keyLogs: this.keyLogs.map((log) => log.bytes) });
+  }
+
+  progress({ read, size, count: packets }) {
+    this.byId("progress").value = read / size;
+    const of = `${sizeText(read)} of ${sizeText(size)}`;
+    if (packets === undefined) {
+      this.say(`Reading again: ${of}`);
+      return;
+    }
+    this.say(`${count(packets, "packet")} in ${of}`);
+    if (this.byId("table").hidden && packets > 0) {
+      this.byId("table").hidden = false;
+      this.list.show(packets);
+    }
+  }
+
+  async failed({ text, name }) {
+    if (name === "NotReadableError" && this.file && !this.isHeld) {
+      // WebKit lets no worker of a page opened as a file read files.
+      this.isHeld = true;
+      this.read({ bytes: await this.file.arrayBuffer() });
+      return;
+    }
+    this.say(`Not read: ${text}.`, true);
+    this.state = "failed";
+  }
+
+  cancelled() {
+    if (document.documentElement.dataset.capture === "saving") {
+      this.state = "ready";
+      this.say("Not saved.");
+    }
+  }
+
+  // ---- what was found
+
+  ready({ summary, fault, spent, isStopped }) {
+    this.summary = summary;
+    this.isHeld = false;
+    this.said = this.wholeText(summary, fault, spent, isStopped);
+    this.say(this.said, fault !== "");
+    for (const id of ["overview", "found", "table"]) {
+      this.byId(id).hidden = summary.packets === 0;
+    }
+    this.byId("connections").replaceChildren();
+    this.cardsShown = 0;
+    this.askCards();
+    const go = (index) => this.list.goTo(index);
+    showFindings(this.byId("findings"), this.byId("found-title"), summary.findings, go);
+    this.list.apply(this.list.filter.value);
+    this.state = "ready";
+  }
+
+  wholeText(summary, fault, spent, isStopped) {
+    const { packets, further_packets: further, connections, secrets, capture, cut_off: isCut } = summary;
+    const unopened = unopenedTexts(capture.unopened);
+    return `${[
+      `${this.file.name}, ${this.keysText()}`,
+      `${count(packets, "packet")} of ${count(connections, "connection")}, read in ${(spent / 1000).toFixed(1)} s`,
+      ...unopened, unopened.length > 0 && secrets === 0 ? "the key log that the endpoints wrote would open more" : "",
+      capture.others > 0 ? `${count(capture.others, "record")} of other protocols` : "",
+      further > 0 ? `${further} packets more than can be listed` : "",
+      isStopped ? "stopped before the end" : "", fault, isCut && !isStopped && !fault ? "the file is cut off" : "",
+    ].filter(Boolean).join("; ")}.`;
+  }
+
+  askCards() {
+    this.ask("cards", { from: this.cardsShown, to: this.cardsShown + CARDS });
+  }
+
+  cards({ list }) {
+    this.cardsShown += list.length;
+    addCards(this.byId("connections"), list, {
+      filter: (number) => this.list.apply(`c:${number}`),
+      picture: (number) => this.ask("points", { connection: number }),
+    });
+    const more = moreText(this.cardsShown, this.summary.connections, this.summary.further_connections);
+    this.byId("more-text").textContent = more;
+    this.byId("more-connections").hidden = this.cardsShown >= this.summary.connections;
+    if (list.length > 0 && this.cardsShown === list.length) {
+      this.ask("points", { connection: list[0].connection });
+    }
+  }
+
+  points({ connection, points }) {
+    this.byId("times").hidden = points.length === 0;
+    this.byId("times-title").textContent = `Packet numbers over time, connection ${connection}`;
+    this.timeline.show(points);
+  }
+
+  open(index) {
+    this.ask("detail", { index });
+  }
+
+  detail({ detail }) {
+    this.datagram.show(detail, this.columns(), this.summary?.findings ?? []);
+    if (this.summary) {
+      this.say(this.said);
+    }
+  }
+
+  save() {
+    this.state = "saving";
+    this.ask("save");
+  }
+
+  saved({ blob }) {
+    saveBlob(blob, `${this.file.name}.jsonl`);
+    this.state = "ready";
+    this.say(this.said);
+  }
+}

@@ -1,0 +1,222 @@
+"""Captures in the page: what it shows and saves of them is what the program quic-wire prints."""
+import base64
+import glob
+import json
+import os
+import subprocess
+
+from browser import DOWN, END, HOME, Failed
+from common import same
+
+# Gives files to the page as if they were chosen: names, and their bytes in base64.
+CHOOSE = """const transfer = new DataTransfer();
+    for (const [name, digits] of arguments[0]) {
+      const bytes = Uint8Array.from(atob(digits), (one) => one.charCodeAt(0));
+      transfer.items.add(new File([bytes], name));
+    }
+    document.documentElement.dataset.capture = "";
+    if (arguments[1]) {
+      document.documentElement.dispatchEvent(new DragEvent("drop", { dataTransfer: transfer, bubbles: true }));
+    } else {
+      const input = document.getElementById("files");
+      input.files = transfer.files;
+      input.dispatchEvent(new Event("change", { bubbles: true }));
+    }"""
+ENDED = "return ['ready', 'failed'].includes(document.documentElement.dataset.capture)"
+STATUS = "return document.getElementById('capture-status').textContent"
+TEXTS = "return [...document.querySelectorAll(arguments[0])].map((one) => one.textContent)"
+FILTER = """const filter = document.getElementById("filter"); filter.value = arguments[0];
+    filter.dispatchEvent(new Event("input", { bubbles: true }));"""
+# Which boxes scroll sideways.
+WIDE = """const boxes = [document.documentElement, ...document.querySelectorAll("#captures-door *")];
+    return boxes.filter((one) => one.scrollWidth > one.clientWidth + 1 && one.clientWidth > 0
+        && !["hidden", "visible", "clip"].includes(getComputedStyle(one).overflowX))
+      .concat(document.documentElement.scrollWidth > window.innerWidth ? [document.body] : [])
+      .map((one) => `${one.id} ${one.className}`);"""
+WIDTHS = (400, 800, 1280, 1920)
+NOTE = "return document.getElementById('filter-note').textContent"
+
+
+def captures(top, folder="vectors/captures"):
+    """Captures with their key logs, if they have one."""
+    found = sorted(glob.glob(f"{top}/{folder}/*.pcap") + glob.glob(f"{top}/{folder}/*.pcapng"))
+    if not found:
+        raise Failed(f"{folder} has no captures")
+    keys = [f"{os.path.splitext(one)[0]}.keys" for one in found]
+    return [(one, key if os.path.exists(key) else None) for one, key in zip(found, keys)]
+
+
+def printed(program, mode, capture, keys):
+    """What the program prints, line by line."""
+    words = [program, mode, capture, "--json", *(["--keylog", keys] if keys else [])]
+    return subprocess.run(words, capture_output=True, text=True, check=False).stdout
+
+
+def choose(browser, files, is_dropped=False, state="ready"):
+    """Gives files to the page, and waits until they are read, or rejected if |state| is failed."""
+    given = []
+    for path in files:
+        with open(path, "rb") as file:
+            given.append((os.path.basename(path), base64.b64encode(file.read()).decode()))
+    browser.run(CHOOSE, given, is_dropped)
+    browser.until(ENDED, f"{files} are read")
+    same(browser.run("return document.documentElement.dataset.capture"), state, f"{files}: {browser.run(STATUS)}")
+
+
+def finding_text(one):
+    """A finding as the page writes it."""
+    number = f" {one['number']}" if "number" in one else ""
+    often = f" {one['count']} times." if one["count"] > 1 else ""
+    return (f"Record {one['record']}, {one['sender']}, {one['type']}{number}: {one['seen']}. "
+            f"Expected: {one['expected']}.{often} RFC {one['rfc']}, section {one['section']}")
+
+
+def findings_agree(browser, program, capture, keys):
+    """The findings are those of `check --json`, and each leads to its packet."""
+    lines = [json.loads(line) for line in printed(program, "check", capture, keys).splitlines()]
+    wanted = [one for one in lines if one["kind"] == "finding"]
+    same(browser.run(TEXTS, "#findings .finding"), [finding_text(one) for one in wanted], f"findings of {capture}")
+    if wanted:
+        browser.run("document.querySelector('#findings .finding').click()")
+        title = f"Record {wanted[0]['record']}: "
+        browser.until("return document.getElementById('packet-title').textContent.startsWith(arguments[0])",
+                      f"the packet of {finding_text(wanted[0])}", title)
+        browser.until("return document.querySelectorAll('#packet-broken .fault').length > 0", "the finding there")
+
+
+def all_agree(browser, address, top, program):
+    """Saves each capture as objects, which are those of `capture --json`. Returns how many there are."""
+    for capture, keys in captures(top):
+        browser.send("navigate", {"url": "about:blank"})
+        browser.go(f"{address}#captures")
+        choose(browser, [capture, *([keys] if keys else [])])
+        browser.run("document.getElementById('save-objects').click()")
+        saved = browser.saved(f"{os.path.basename(capture)}.jsonl")
+        wanted = printed(program, "capture", capture, keys)
+        for number, (one, other) in enumerate(zip(saved.splitlines(), wanted.splitlines())):
+            same(one, other, f"line {number} of {capture}")
+        same(len(saved), len(wanted), f"the length of what is saved of {capture}")
+        findings_agree(browser, program, capture, keys)
+    return len(captures(top))
+
+
+def broken_agree(browser, address, top, program):
+    """The same findings for captures in each of which a rule is broken."""
+    broken = captures(top, "vectors/captures/broken")
+    browser.go(f"{address}#captures")
+    for capture, keys in broken:
+        choose(browser, [capture, *([keys] if keys else [])], is_dropped=True)
+        findings_agree(browser, program, capture, keys)
+    return len(broken)
+
+
+def shown(browser, address, top, program):
+    """What is shown of a capture: rows, a filter, connections, a packet byte by byte."""
+    capture, keys = f"{top}/rust/capture/tests/data/small.pcap", f"{top}/rust/capture/tests/data/small.keys"
+    lines = [json.loads(line) for line in printed(program, "capture", capture, keys).splitlines()]
+    packets = [one for one in lines if "index" in one]
+    connection = next(one for one in lines if one["kind"] == "connection")
+    browser.send("navigate", {"url": "about:blank"})
+    browser.go(f"{address}#captures")
+    choose(browser, [capture, keys])
+    rows_agree(browser, packets)
+    cards_agree(browser, connection)
+    filters(browser, packets)
+    walk(browser, packets)
+    return len(packets)
+
+
+def rows_agree(browser, packets):
+    browser.until("return document.querySelectorAll('#packets [data-index]').length > 0", "rows")
+    for name, member in (("record", "record"), ("sender", "sender"), ("number", "number"), ("type", "type")):
+        found = browser.run(TEXTS, f"#packets .packet-row .{name}")
+        same(found, [f"{one.get(member, '')}" for one in packets][:len(found)], f"the column {name}")
+
+
+def cards_agree(browser, connection):
+    """A connection's card has its end, and the transport parameters of both sides."""
+    text = browser.until("return document.querySelector('#connections .card')?.textContent", "a connection")
+    end = connection["end"]
+    for wanted in (f"{end[0].upper()}{end[1:]}.", connection["suite"], connection["client"]["first_address"],
+                   connection["server"]["first_address"], "initial_max_data"):
+        if wanted not in text:
+            raise Failed(f"the card lacks {wanted!r}: {text}")
+    size = browser.until("const { width, height } = document.getElementById('timeline'); return width && height && "
+                         "[width, height]", "a picture")
+    if min(size) < 100:
+        raise Failed(f"the picture is {size}")
+
+
+def filters(browser, packets):
+    for text, wanted in (("server", [one for one in packets if one.get("sender") == "server"]),
+                         ("type:initial", [one for one in packets if one["type"] == "Initial"]),
+                         ("-client", [one for one in packets if one.get("sender") != "client"]), ("", packets)):
+        browser.run(FILTER, text)
+        browser.until("return document.getElementById('filter-note').textContent.startsWith(arguments[0])",
+                      f"the filter {text}: {browser.run(NOTE)}", f"{len(wanted)} shown")
+        browser.until("return document.querySelectorAll('#packets [data-index]').length > 0", "rows")
+        numbers = browser.run(TEXTS, "#packets .packet-row .record")
+        same(numbers, [f"{one['record']}" for one in wanted][:len(numbers)], f"the rows of {text!r}")
+    browser.run(FILTER, "pn:x")
+    browser.until("return document.getElementById('filter').ariaInvalid === 'true' || "
+                  "document.getElementById('filter').getAttribute('aria-invalid') === 'true'", "a filter that is none")
+    browser.run(FILTER, "")
+
+
+def walk(browser, packets):
+    """Packets by keys: each one's bytes and payload."""
+    browser.until("return document.getElementById('filter').getAttribute('aria-invalid') === 'false'", "no filter")
+    browser.run("document.getElementById('packets').focus()")
+    browser.keys(HOME)
+    for one in packets:
+        title = f"Record {one['record']}: {one['from']} to {one['to']}"
+        browser.until("return document.getElementById('packet-title').textContent === arguments[0]", title, title)
+        note = browser.run("return document.getElementById('packet-note').textContent")
+        begin, end = one["packet_in_datagram"]
+        if f"bytes {begin}..{end}" not in note:
+            raise Failed(f"the note of a packet: {note}")
+        if "payload_in_datagram" in one:
+            start, stop = one["payload_in_datagram"]
+            count = stop - start
+            browser.until("return document.getElementById('payload-title').textContent.startsWith(arguments[0])",
+                          f"the payload of {one}", f"Payload of {one['type']} {one['number']}, {count} byte")
+            frames = browser.run(TEXTS, "#payload-outline .item .name")
+            same(frames, [frame["frame"] for frame in one["frames"]][:len(frames)], f"the frames of {one}")
+        browser.keys(DOWN)
+    browser.keys(END)
+
+
+def rejected(browser, address, top):
+    """Files that are neither: words, and what was there stays."""
+    browser.send("navigate", {"url": "about:blank"})
+    browser.go(f"{address}#captures")
+    choose(browser, [f"{top}/README.md"], state="failed")
+    same(browser.run(STATUS), "Not read: README.md is neither a capture (pcap, pcapng, also compressed by gzip) nor a "
+         "key log.", "a text")
+
+
+def widths(browser, address, top):
+    """With a capture nothing is wider than the window, at any width."""
+    for width in WIDTHS:
+        browser.send("navigate", {"url": "about:blank"})
+        browser.go(f"{address}#captures")
+        browser.width(width)
+        choose(browser, [f"{top}/vectors/captures/ngtcp2-loss.{end}" for end in ("pcap", "keys")])
+        browser.until("return document.querySelectorAll('#packets [data-index]').length > 0", "rows")
+        browser.run("document.querySelector('#packets [data-index]').click()")
+        browser.until("return !document.getElementById('payload').hidden", "a payload")
+        browser.run("document.querySelector('#connections details').open = true")
+        same(browser.run(WIDE), [], f"what is too wide in {width} pixels")
+    browser.unshape()
+    return len(WIDTHS)
+
+
+def picture(browser, address, top, path):
+    """A picture of a capture with lost packets."""
+    browser.send("navigate", {"url": "about:blank"})
+    browser.go(f"{address}#captures")
+    choose(browser, [f"{top}/vectors/captures/ngtcp2-loss.{end}" for end in ("pcap", "keys")])
+    browser.until("return document.querySelectorAll('#packets [data-index]').length > 0", "rows")
+    browser.run("document.querySelectorAll('#packets [data-index]')[3].click()")
+    browser.until("return !document.getElementById('packet').hidden", "a packet")
+    browser.picture(path, 1280, 1500, "light")

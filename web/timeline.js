@@ -1,0 +1,247 @@
+// Packet numbers over time: a picture of a connection, with axes, in which a part can be enlarged and a packet chosen.
+
+// Each point is six numbers: time, packet number, side, state, space, and the packet's index.
+const POINT = 6;
+const MARGIN = { left: 64, right: 12, top: 10, bottom: 34 };
+const TICKS = 6;
+// How far a click may be from a point, in pixels.
+const NEAR = 18;
+// How far a drag must go to enlarge a part.
+const LEAST_DRAG = 8;
+const LOST = [2, 3];
+// The colours, by their names in the style sheet.
+const COLORS = { ink: "--ink", line: "--line", client: "--accent", server: "--good", lost: "--bad" };
+export const STATES = ["not acknowledged", "acknowledged", "lost", "acknowledged, had counted as lost"];
+
+// Round numbers between two others, for an axis.
+export function ticksBetween(from, to, most = TICKS) {
+  const rough = (to - from) / most;
+  const power = 10 ** Math.floor(Math.log10(rough));
+  const step = power * [1, 2, 5, 10].find((factor) => factor * power >= rough);
+  const first = Math.ceil(from / step);
+  return Array.from({ length: Math.floor(to / step) - first + 1 }, (_, at) => (first + at) * step);
+}
+
+// A number of an axis, with as many digits as the next one needs to differ.
+function tickText(value, step) {
+  return value.toFixed(Math.max(0, Math.min(9, Math.ceil(-Math.log10(step)))));
+}
+
+export class Timeline {
+  // |on| has choose(index) and spot(text), which says what is near the pointer.
+  constructor(canvas, on) {
+    Object.assign(this, { canvas, on, points: new Float64Array(), drag: null, at: -1 });
+    canvas.addEventListener("pointerdown", (event) => this.press(event));
+    canvas.addEventListener("pointermove", (event) => this.move(event));
+    canvas.addEventListener("pointerup", (event) => this.release(event));
+    canvas.addEventListener("keydown", (event) => this.key(event));
+    new ResizeObserver(() => this.draw()).observe(canvas);
+    window.matchMedia("(prefers-color-scheme: dark)").addEventListener("change", () => this.draw());
+  }
+
+  show(points) {
+    this.points = points;
+    this.at = -1;
+    this.all();
+  }
+
+  get count() {
+    return this.points.length / POINT;
+  }
+
+  // Shows all of it.
+  all() {
+    let [begin, end, least, most] = [Infinity, -Infinity, Infinity, -Infinity];
+    for (let at = 0; at < this.points.length; at += POINT) {
+      begin = Math.min(begin, this.points[at]);
+      end = Math.max(end, this.points[at]);
+      least = Math.min(least, this.points[at + 1]);
+      most = Math.max(most, this.points[at + 1]);
+    }
+    const ends = [begin, Math.max(end, begin + 1e-6), least, Math.max(most, least + 1)];
+    this.view = this.count === 0 ? [0, 1, 0, 1] : ends;
+    this.draw();
+  }
+
+  // ---- drawing
+
+  // Where a time and a number are in the picture.
+  place(time, number) {
+    const [begin, end, least, most] = this.view;
+    const { clientWidth: width, clientHeight: height } = this.canvas;
+    return [
+      MARGIN.left + ((time - begin) / (end - begin)) * (width - MARGIN.left - MARGIN.right),
+      height - MARGIN.bottom - ((number - least) / (most - least)) * (height - MARGIN.top - MARGIN.bottom),
+    ];
+  }
+
+  draw() {
+    const { canvas } = this;
+    const scale = window.devicePixelRatio || 1;
+    const [width, height] = [canvas.clientWidth, canvas.clientHeight];
+    if (width === 0 || !this.view) {
+      return;
+    }
+    Object.assign(canvas, { width: width * scale, height: height * scale });
+    const context = canvas.getContext("2d");
+    context.scale(scale, scale);
+    const style = getComputedStyle(canvas);
+    this.colors = Object.fromEntries(Object.entries(COLORS).map(([name, property]) => (
+      [name, this.resolved(style.getPropertyValue(property))])));
+    context.font = `12px ${style.fontFamily}`;
+    this.axes(context, width, height);
+    context.save();
+    context.beginPath();
+    context.rect(MARGIN.left - 4, MARGIN.top - 4, width - MARGIN.left - MARGIN.right + 8,
+      height - MARGIN.top - MARGIN.bottom + 8);
+    context.clip();
+    this.dots(context, false);
+    this.dots(context, true);
+    this.marks(context, height);
+    context.restore();
+  }
+
+  // A colour of the style sheet as it is in the scheme of now.
+  resolved(color) {
+    this.canvas.style.color = color;
+    const { color: found } = getComputedStyle(this.canvas);
+    this.canvas.style.color = "";
+    return found;
+  }
+
+  axes(context, width, height) {
+    const [begin, end, least, most] = this.view;
+    Object.assign(context, { fillStyle: this.colors.ink, strokeStyle: this.colors.line, lineWidth: 1 });
+    context.textAlign = "center";
+    const times = ticksBetween(begin, end);
+    for (const time of times) {
+      const [x] = this.place(time, least);
+      context.strokeRect(x, MARGIN.top, 0, height - MARGIN.top - MARGIN.bottom);
+      context.fillText(`${tickText(time, (end - begin) / TICKS)} s`, x, height - MARGIN.bottom + 16);
+    }
+    context.textAlign = "right";
+    for (const number of ticksBetween(least, most).filter(Number.isInteger)) {
+      const [, y] = this.place(begin, number);
+      context.strokeRect(MARGIN.left, y, width - MARGIN.left - MARGIN.right, 0);
+      context.fillText(`${number}`, MARGIN.left - 8, y + 4);
+    }
+  }
+
+  // The packets, of which those that counted as lost come last.
+  dots(context, areLost) {
+    const { points, colors } = this;
+    for (let at = 0; at < points.length; at += POINT) {
+      const isLost = LOST.includes(points[at + 3]);
+      if (isLost === areLost) {
+        const [x, y] = this.place(points[at], points[at + 1]);
+        const size = isLost ? 5 : 3;
+        context.fillStyle = isLost ? colors.lost : points[at + 2] === 0 ? colors.client : colors.server;
+        // Sides differ in shape too: the server's are hollow.
+        if (points[at + 2] === 0 || isLost) {
+          context.fillRect(x - size / 2, y - size / 2, size, size);
+        } else {
+          context.strokeStyle = context.fillStyle;
+          context.strokeRect(x - size / 2, y - size / 2, size, size);
+        }
+      }
+    }
+  }
+
+  // What is dragged over, and the chosen packet.
+  marks(context, height) {
+    context.strokeStyle = this.colors.ink;
+    if (this.drag && this.drag.to !== this.drag.from) {
+      const { from, to } = this.drag;
+      context.strokeRect(from, MARGIN.top, to - from, height - MARGIN.top - MARGIN.bottom);
+    }
+    if (this.at >= 0) {
+      const [x, y] = this.place(this.points[POINT * this.at], this.points[POINT * this.at + 1]);
+      context.beginPath();
+      context.arc(x, y, 6, 0, 2 * Math.PI);
+      context.stroke();
+    }
+  }
+
+  // ---- pointer and keys
+
+  // The point nearest to a place of the picture, or -1.
+  near(x, y) {
+    let [best, least] = [-1, NEAR ** 2];
+    for (let at = 0; at < this.count; at += 1) {
+      const [px, py] = this.place(this.points[POINT * at], this.points[POINT * at + 1]);
+      const away = (px - x) ** 2 + (py - y) ** 2;
+      if (away < least) {
+        [best, least] = [at, away];
+      }
+    }
+    return best;
+  }
+
+  say(at) {
+    const [time, number, side, state] = this.points.subarray(POINT * at, POINT * at + 4);
+    const sender = side === 0 ? "client" : "server";
+    this.on.spot(at < 0 ? "" : `${sender}, packet ${number}, ${time.toFixed(6)} s, ${STATES[state]}`);
+  }
+
+  press(event) {
+    this.drag = { from: event.offsetX, to: event.offsetX };
+    this.canvas.setPointerCapture(event.pointerId);
+  }
+
+  move(event) {
+    if (this.drag) {
+      this.drag.to = event.offsetX;
+      this.draw();
+    } else {
+      this.say(this.near(event.offsetX, event.offsetY));
+    }
+  }
+
+  release(event) {
+    const { drag } = this;
+    this.drag = null;
+    if (drag && Math.abs(drag.to - drag.from) >= LEAST_DRAG) {
+      this.enlarge(Math.min(drag.from, drag.to), Math.max(drag.from, drag.to));
+    } else {
+      this.choose(this.near(event.offsetX, event.offsetY));
+    }
+  }
+
+  choose(at) {
+    this.at = at;
+    this.draw();
+    if (at >= 0) {
+      this.say(at);
+      this.on.choose(this.points[POINT * at + 5]);
+    }
+  }
+
+  // Shows what is between two places of the picture, with the numbers that are there.
+  enlarge(from, to) {
+    const [begin, end] = this.view;
+    const width = this.canvas.clientWidth - MARGIN.left - MARGIN.right;
+    const time = (x) => begin + (Math.max(0, Math.min(width, x - MARGIN.left)) / width) * (end - begin);
+    const [first, last] = [time(from), time(to)];
+    let [least, most] = [Infinity, -Infinity];
+    for (let at = 0; at < this.points.length; at += POINT) {
+      if (this.points[at] >= first && this.points[at] <= last) {
+        least = Math.min(least, this.points[at + 1]);
+        most = Math.max(most, this.points[at + 1]);
+      }
+    }
+    if (last > first && least <= most) {
+      this.view = [first, last, least, Math.max(most, least + 1)];
+    }
+    this.draw();
+  }
+
+  key(event) {
+    const to = { ArrowRight: this.at + 1, ArrowLeft: this.at - 1, Home: 0, End: this.count - 1 }[event.key];
+    if (event.key === "Escape") {
+      this.all();
+    } else if (to !== undefined && this.count > 0) {
+      event.preventDefault();
+      this.choose(Math.max(0, Math.min(this.count - 1, to)));
+    }
+  }
+}

@@ -9,8 +9,9 @@
 //   packets: each line as a datagram, with connection IDs of 8 bytes in short headers
 // All but `packets` with `-rfc` read by QUIC_WIRE_READ_RFC, and so do `call-stream-read` and `call-ack-read` below.
 // With a number N in place of FILE, a thousand calls each:
-//   set-push (a run after N others), set-grow (the last of N runs), set-contains (in N runs), set-ack (of N runs), each
-//     minus what set-0 takes
+//   set-push (a run after N others), set-grow (the last of N runs), set-contains (in N runs), set-ack (of N runs);
+//     without a check of all runs set-runs (a run after N others), set-front (the first of N runs); each minus what
+//     set-0 takes
 //   call-NAME, a single call, one of `calls` below, with connection IDs of N bytes or an ACK of N ranges, minus what
 //     call-none takes
 //   read-NAME, write-NAME: a frame, one of `written` below, read or written; if N is 1, by the rules of RFC 9000
@@ -41,6 +42,7 @@ static u64 on_a_set(char work, size_t runs_len) {
         runs[k] = (quic_wire_range){4 * k, 4 * k + 1};
     for (u64 turn = 0; turn < 1000; turn++) {
         size_t count = runs_len, written = 0;
+        quic_wire_runs at = {0, runs_len};
         if (work == 'p')
             sum += quic_wire_set_insert(runs, 1025, &count, 4 * runs_len, 4 * runs_len + 1);
         else if (work == 'g')
@@ -49,6 +51,11 @@ static u64 on_a_set(char work, size_t runs_len) {
             sum += quic_wire_set_contains(runs, count, 4 * (turn % runs_len));
         else if (work == 'a')
             sum += quic_wire_ack_write(turn, runs, count, NULL, dest, sizeof dest, &written);
+        else if (work == 'r')
+            sum += quic_wire_runs_insert(runs, 1025, &at, 4 * runs_len, 4 * runs_len + 1);
+        else if (work == 'f')
+            sum += quic_wire_runs_insert(runs, 1025, &at, runs[0].end, runs[0].end + 1);
+        runs[0].end = 1;
         sum += count + written;
         counted++;
     }

@@ -1,6 +1,6 @@
 //! Where a number is among runs. The last run is checked first, since most changes are there; then the index is found by
 //! binary search.
-ghost use Rattle.std.specs.Prelude.{◌≡◌, ◌≤◌, length};
+ghost use Rattle.std.specs.Prelude.{◌≡◌, ◌≤◌, ◌-◌, length};
 ghost use Rattle.quic_ranges.specs.Intersections.{intersections};
 ghost use Rattle.quic_ranges.specs.Runs.{IsMaximalRuns, member};
 ghost use Rattle.quic_ranges.specs.Places.{ends_below, starts_upto};
@@ -44,11 +44,13 @@ pub fn contains(runs: &[CRange], x: u64) -> bool
     after > 0 && x < runs[after - 1].end
 }
 
-/// The runs of a set that have a part in a range, by two binary searches, and those beside that only touch it. If the
-/// entries aren't such runs, it is some of them.
+/// The runs of a set that have a part in a range, by two binary searches, and those beside that only touch it; no
+/// others, so that a caller goes through few. If the entries aren't such runs, it is some of them.
 pub fn touched(runs: &[CRange], x: CRange) -> &[CRange]
-    ensures { IsMaximalRuns (runs_of runs.now)
+    ensures same { IsMaximalRuns (runs_of runs.now)
         → intersections (runs_of result.now) (range_of x) ≡ intersections (runs_of runs.now) (range_of x) }
+    ensures few { IsMaximalRuns (runs_of runs.now)
+        → length result.now ≡ starts_upto (runs_of runs.now) x.end - ends_below (runs_of runs.now) x.start }
 {
     let from = count_ends_below(runs, x.start);
     let to = count_starts_upto(runs, x.end).max(from);

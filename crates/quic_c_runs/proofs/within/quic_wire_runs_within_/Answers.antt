@@ -16,7 +16,7 @@ returns-then-dest-needed-clause-room c = λ valid _.
     let runs = runs_at c.args.runs.now c.args.set.now in
     let same : intersections (runs_of c.touched-found.result.now) x ≡ intersections runs x =
     found_in x c.entries.result.now (entries_at c.args.runs.now c.args.set.now) c.touched-found.result.now c.entries.ensures
-    c.touched-found.ensures valid.maximal in
+    c.touched-found.ensures.same valid.maximal in
     let full = c.if-dest-needed.true in
     let count = c.count_parts-needed.ensures ∙ ap length same in
     (intersections runs x, IsRunsOf-intersections x runs valid.maximal, count, omega (arith, full, count))
@@ -27,7 +27,7 @@ returns-clause-found c = λ valid _.
     let runs = runs_at c.args.runs.now c.args.set.now in
     let same : intersections (runs_of c.touched-found.result.now) x ≡ intersections runs x =
     found_in x c.entries.result.now (entries_at c.args.runs.now c.args.set.now) c.touched-found.result.now c.entries.ensures
-    c.touched-found.ensures valid.maximal in (
+    c.touched-found.ensures.same valid.maximal in (
       intersections runs x,
       IsRunsOf-intersections x runs valid.maximal,
       subst (λ (l : List (Range ℕ)). Stores l c.args.dest.now c.store_parts.new.dest c.store_parts.result) same c.store_parts.ensures,

@@ -32,14 +32,27 @@ fn prints_what_is_stored(name: &str, program: &str) {
         .output()
         .unwrap_or_else(|e| panic!("{name} didn't run: {e}"));
     let status = fs::read_to_string(at.join("status")).map_or(0, |text| text.trim().parse().expect("a status"));
-    let stored = fs::read(at.join("stdout")).expect("a stored output");
     assert_eq!(ran.status.code(), Some(status), "{name}: its status; it said {}", String::from_utf8_lossy(&ran.stderr));
-    let (printed, wanted) = (ran.stdout.split(|b| *b == b'\n'), stored.split(|b| *b == b'\n'));
+    is_file(name, &ran.stdout, &at.join("stdout"));
+}
+
+// A program's output is the file's bytes.
+fn is_file(name: &str, output: &[u8], file: &Path) {
+    let stored = fs::read(file).expect("a stored output");
+    let (printed, wanted) = (output.split(|b| *b == b'\n'), stored.split(|b| *b == b'\n'));
     for (line, (printed, wanted)) in printed.zip(wanted).enumerate() {
         let (printed, wanted) = (String::from_utf8_lossy(printed), String::from_utf8_lossy(wanted));
         assert_eq!(printed, wanted, "{name}: line {} of its output", line + 1);
     }
-    assert!(ran.stdout == stored, "{name}: {} bytes instead of {}", ran.stdout.len(), stored.len());
+    assert!(output == stored, "{name}: {} bytes instead of {}", output.len(), stored.len());
+}
+
+// The formats as data are what is proved, and the names of the tables.
+#[test]
+fn formats() {
+    let ran = command("formats", env!("CARGO_BIN_EXE_formats")).output().expect("the program of the formats");
+    assert!(ran.status.success(), "formats: {}", String::from_utf8_lossy(&ran.stderr));
+    is_file("formats", &ran.stdout, &folder("../docs/formats.json"));
 }
 
 macro_rules! programs {
@@ -67,7 +80,6 @@ macro_rules! programs {
 
 programs! {
     quic_example
-    quic_formats
     quic_replay
     quic_replay_calls
     quic_replay_packets

@@ -1,5 +1,0 @@
-//! Tests of acknowledgements, read and written.
-#![tactic(auto)]
-
-#[cfg(test)]
-mod tests;

@@ -1,5 +1,0 @@
-//! Tests of frames that are written.
-#![tactic(auto)]
-
-#[cfg(test)]
-mod tests;

@@ -1,7 +1,0 @@
-//! Worked rows, and what no clause says.
-
-mod bodies;
-mod frames;
-mod frames_by_rules;
-mod frames_in_range;
-mod frames_stored;

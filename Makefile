@@ -46,7 +46,7 @@ dist:
 	scripts/release out/dist
 
 docs:
-	$(if $(KIT),scripts/formats)
+	scripts/formats
 	mkdir -p out && scripts/format-page >out/FORMAT.md && mv out/FORMAT.md docs/FORMAT.md
 	scripts/tables
 	scripts/erase

@@ -1,6 +1,5 @@
 //! The types of frames.
 use crate::formats::Made;
-use crate::formats::frame_names::{FRAMES, GREATEST, Label, Names, RANGES};
 use crate::formats::line::Line;
 use crate::proved::quic_base::coding::BufMutExt;
 use crate::proved::quic_base::ids::Side;
@@ -8,6 +7,7 @@ use crate::proved::quic_base::varint::VarInt;
 use crate::proved::quic_fields::row::{Kind, row};
 use crate::proved::quic_frames::frame::{FrameType, Iter, Rules};
 use crate::proved::quic_permitted::permitted::{PacketType, Part, Permission};
+use crate::tested::quic_formats::frame_names::{FRAMES, GREATEST, Label, Names, RANGES};
 
 const PACKETS: [(PacketType, &str); 4] = [
     (PacketType::Initial, "Initial"),

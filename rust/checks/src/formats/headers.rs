@@ -1,11 +1,11 @@
 //! The headers of packets.
 use crate::formats::Made;
-use crate::formats::header_names::{
-    After, Bits, Field, HANDSHAKE, INITIAL, NEGOTIATION, Names, ONE_RTT, RETRY, ZERO_RTT, field_of,
-};
 use crate::formats::line::Line;
 use crate::proved::quic_header_encode::long_type::{FIXED_BIT, LONG_HEADER_FORM, LongHeaderType, LongType, VERSION_2};
 use crate::proved::quic_header_fields::row::{Kind, row};
+use crate::tested::quic_formats::header_names::{
+    After, Bits, Field, HANDSHAKE, INITIAL, NEGOTIATION, Names, ONE_RTT, RETRY, ZERO_RTT, field_of,
+};
 
 /// A line for each header: long ones of version 1 and of version 2 in the order of their types, and those of all
 /// versions.

@@ -3,12 +3,9 @@
 //! packets and senders. Names, units and sections are in the tables here. It fails if a table differs from the proved
 //! code: in a number, in how many fields a type has, in a bound. `docs/formats.json` is the file.
 
-mod frame_names;
 mod frames;
-mod header_names;
 mod headers;
 mod line;
-mod parameter_names;
 mod parameters;
 mod reasons;
 

@@ -1,7 +1,6 @@
 //! The transport parameters.
 use crate::formats::Made;
 use crate::formats::line::Line;
-use crate::formats::parameter_names::{ADDRESS, Most, Names, PARAMETERS};
 use crate::proved::quic_base::coding::BufMutExt;
 use crate::proved::quic_base::ids::Side;
 use crate::proved::quic_base::varint::VarInt;
@@ -9,6 +8,7 @@ use crate::proved::quic_params::transport_parameters::TransportParameterId::*;
 use crate::proved::quic_params::transport_parameters::{
     ReadOptions, Refusal, TransportParameterId, TransportParameters, Value,
 };
+use crate::tested::quic_formats::parameter_names::{ADDRESS, Most, Names, PARAMETERS};
 
 // The greatest number (RFC 9000, section 16).
 const GREATEST: u64 = (1 << 62) - 1;

@@ -2,11 +2,11 @@
 
 /// A field: its name in the RFC's figure, what its number counts or names, the name of its length.
 #[derive(Clone, Copy)]
-pub(crate) struct Label(pub &'static str, pub &'static str, pub &'static str);
+pub struct Label(pub &'static str, pub &'static str, pub &'static str);
 
 /// The types of frames that have one name and the same fields.
 #[derive(Clone, Copy)]
-pub(crate) struct Names {
+pub struct Names {
     /// The first and the last type.
     pub types: (u16, u16),
     /// The frame's name.
@@ -21,11 +21,15 @@ pub(crate) struct Names {
 }
 
 /// The greatest number in the field of a type, by the field's index. Others go up to 2^62 - 1.
-pub(crate) const GREATEST: [(u16, usize, u64); 4] =
-    [(0x12, 2, 1 << 60), (0x13, 2, 1 << 60), (0x16, 2, 1 << 60), (0x17, 2, 1 << 60)];
+pub const GREATEST: [(u16, usize, u64); 4] = [
+    (0x12, 2, 1 << 60),
+    (0x13, 2, 1 << 60),
+    (0x16, 2, 1 << 60),
+    (0x17, 2, 1 << 60),
+];
 
 /// The numbers of an ACK's ranges: their count after the first, the first, and of each other its gap and its length.
-pub(crate) const RANGES: [Label; 4] = [
+pub const RANGES: [Label; 4] = [
     Label("ACK Range Count", "ranges", ""),
     Label("First ACK Range", "packets", ""),
     Label("Gap", "packets", ""),
@@ -37,7 +41,11 @@ const NO_BYTES: Label = Label("", "", "");
 
 const STREAM_ID: Label = Label("Stream ID", "stream id", "");
 
-const APPLICATION_CODE: Label = Label("Application Protocol Error Code", "application error code", "");
+const APPLICATION_CODE: Label = Label(
+    "Application Protocol Error Code",
+    "application error code",
+    "",
+);
 
 const OFFSET: Label = Label("Offset", "bytes", "");
 
@@ -62,9 +70,21 @@ const PATH_DATA: Label = Label("Data", "", "");
 const REASON: Label = Label("Reason Phrase", "UTF-8", "Reason Phrase Length");
 
 /// The frames in the order of their types.
-pub(crate) const FRAMES: &[Names] = &[
-    Names { types: (0x00, 0x00), name: "PADDING", section: "RFC 9000, section 19.1", spec: "NP", fields: &[] },
-    Names { types: (0x01, 0x01), name: "PING", section: "RFC 9000, section 19.2", spec: "", fields: &[] },
+pub const FRAMES: &[Names] = &[
+    Names {
+        types: (0x00, 0x00),
+        name: "PADDING",
+        section: "RFC 9000, section 19.1",
+        spec: "NP",
+        fields: &[],
+    },
+    Names {
+        types: (0x01, 0x01),
+        name: "PING",
+        section: "RFC 9000, section 19.2",
+        spec: "",
+        fields: &[],
+    },
     Names {
         types: (0x02, 0x02),
         name: "ACK",
@@ -91,7 +111,11 @@ pub(crate) const FRAMES: &[Names] = &[
         name: "RESET_STREAM",
         section: "RFC 9000, section 19.4",
         spec: "",
-        fields: &[STREAM_ID, APPLICATION_CODE, Label("Final Size", "bytes", "")],
+        fields: &[
+            STREAM_ID,
+            APPLICATION_CODE,
+            Label("Final Size", "bytes", ""),
+        ],
     },
     Names {
         types: (0x05, 0x05),
@@ -207,7 +231,11 @@ pub(crate) const FRAMES: &[Names] = &[
         name: "CONNECTION_CLOSE",
         section: "RFC 9000, section 19.19",
         spec: "N",
-        fields: &[Label("Error Code", "error code", ""), Label("Frame Type", "frame type, 0 if unknown", ""), REASON],
+        fields: &[
+            Label("Error Code", "error code", ""),
+            Label("Frame Type", "frame type, 0 if unknown", ""),
+            REASON,
+        ],
     },
     Names {
         types: (0x1d, 0x1d),
@@ -216,7 +244,13 @@ pub(crate) const FRAMES: &[Names] = &[
         spec: "N",
         fields: &[Label("Error Code", "application error code", ""), REASON],
     },
-    Names { types: (0x1e, 0x1e), name: "HANDSHAKE_DONE", section: "RFC 9000, section 19.20", spec: "", fields: &[] },
+    Names {
+        types: (0x1e, 0x1e),
+        name: "HANDSHAKE_DONE",
+        section: "RFC 9000, section 19.20",
+        spec: "",
+        fields: &[],
+    },
     Names {
         types: (0x1f, 0x1f),
         name: "IMMEDIATE_ACK",

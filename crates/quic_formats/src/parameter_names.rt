@@ -1,10 +1,10 @@
 //! What RFC 9000 and its extensions call the transport parameters, and the bounds of their values.
-use crate::proved::quic_params::transport_parameters::TransportParameterId;
-use crate::proved::quic_params::transport_parameters::TransportParameterId::*;
+use quic_params::transport_parameters::TransportParameterId;
+use quic_params::transport_parameters::TransportParameterId::*;
 
 /// A transport parameter.
 #[derive(Clone, Copy)]
-pub(crate) struct Names {
+pub struct Names {
     /// The library's name.
     pub id: TransportParameterId,
     /// The number.
@@ -25,7 +25,7 @@ pub(crate) struct Names {
 
 /// The greatest number of a parameter.
 #[derive(Clone, Copy)]
-pub(crate) enum Most {
+pub enum Most {
     /// That of all numbers.
     Any,
     /// This.
@@ -35,7 +35,7 @@ pub(crate) enum Most {
 }
 
 /// The parameters in the order of their numbers.
-pub(crate) const PARAMETERS: &[Names] = &[
+pub const PARAMETERS: &[Names] = &[
     Names {
         id: OriginalDestinationConnectionId,
         number: 0x00,
@@ -250,7 +250,7 @@ pub(crate) const PARAMETERS: &[Names] = &[
 
 /// The fields of a preferred address in their order, each with the least and the most bytes. A byte before the id has
 /// its length.
-pub(crate) const ADDRESS: [(&str, u8, u8); 6] = [
+pub const ADDRESS: [(&str, u8, u8); 6] = [
     ("IPv4 Address", 4, 4),
     ("IPv4 Port", 2, 2),
     ("IPv6 Address", 16, 16),

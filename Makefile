@@ -3,7 +3,7 @@
 # make ci         the gate: proves everything, and checks the rest: over an hour on four cores; needs the kit
 # make proofs     only the proofs, mutants and proved tests of the gate
 # make install    installs what make left below PREFIX, the libraries in PREFIX/LIBDIR, all below DESTDIR if it is set
-# make dist       packs a release in out/dist
+# make dist       packs a release in out/dist, for a trial
 # make docs       makes again what is made of other files: the format as data and as a page, tables, the erased crate
 # make lint       checks the format and the habits of Rust, shell and Python
 # make vectors    runs the test vectors through what is built
@@ -43,7 +43,7 @@ install:
 	scripts/install $(PREFIX) --lib out/lib --libdir $(LIBDIR) $(DESTDIR:%=--destdir %)
 
 dist:
-	scripts/release out/dist
+	scripts/release --stale out/dist
 
 docs:
 	scripts/formats

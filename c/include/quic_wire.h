@@ -138,12 +138,12 @@
 
 /** The version of this header: one byte each for major, minor and patch. */
 #define QUIC_WIRE_LIB_MAJOR 0
-#define QUIC_WIRE_LIB_MINOR 1
+#define QUIC_WIRE_LIB_MINOR 2
 #define QUIC_WIRE_LIB_PATCH 0
 #define QUIC_WIRE_LIB                                                          \
   ((uint32_t)(QUIC_WIRE_LIB_MAJOR << 16 | QUIC_WIRE_LIB_MINOR << 8 |           \
               QUIC_WIRE_LIB_PATCH))
-#define QUIC_WIRE_LIB_TEXT "0.1.0"
+#define QUIC_WIRE_LIB_TEXT "0.2.0"
 
 /* Each function is a symbol of the archive and of the shared library.  If you
  * link the archive, you may define QUIC_WIRE_INLINE before you include this
@@ -813,7 +813,7 @@ extern const char *quic_wire_lib_text(void);
 
 /** Checks that the linked library fits this header.  Call it once, at the
  * start of the program, as quic_wire_check(QUIC_WIRE_LIB).  Returns 0 if the
- * library has the same major version and interface, the 0 of libquic_wire.so.0,
+ * library has the same major version and interface, the 1 of libquic_wire.so.1,
  * and no earlier minor version; otherwise QUIC_WIRE_ERR_LIBRARY. */
 QUIC_WIRE_CHECKED extern int quic_wire_check(uint32_t header);
 

@@ -6,7 +6,7 @@ find_path(_quic_wire_include quic_wire.h NO_CACHE NO_DEFAULT_PATH
 if(NOT TARGET quic_wire::quic_wire)
   add_library(quic_wire::quic_wire SHARED IMPORTED)
   set_target_properties(quic_wire::quic_wire PROPERTIES IMPORTED_LOCATION "${_quic_wire_lib}/libquic_wire.so"
-      IMPORTED_SONAME libquic_wire.so.0 INTERFACE_INCLUDE_DIRECTORIES "${_quic_wire_include}")
+      IMPORTED_SONAME libquic_wire.so.1 INTERFACE_INCLUDE_DIRECTORIES "${_quic_wire_include}")
   add_library(quic_wire::static STATIC IMPORTED)
   set_target_properties(quic_wire::static PROPERTIES IMPORTED_LOCATION "${_quic_wire_lib}/libquic_wire.a"
       INTERFACE_INCLUDE_DIRECTORIES "${_quic_wire_include}")

@@ -7,8 +7,8 @@ uint32_t quic_wire_lib(void) { return QUIC_WIRE_LIB; }
 const char *quic_wire_lib_text(void) { return QUIC_WIRE_LIB_TEXT; }
 
 /* The first minor version whose programs this one serves: until 1.0, the first
- * with the number in the name libquic_wire.so.0; then 0. */
-#define OLDEST_MINOR 1
+ * with the number in the name libquic_wire.so.1; then 0. */
+#define OLDEST_MINOR 2
 
 int quic_wire_check(uint32_t header) {
   uint32_t minor = header >> 8 & 0xff;

@@ -1,3 +1,3 @@
 """The version of the package, which is that of the library it contains."""
 
-VERSION = "0.1.0"
+VERSION = "0.2.0"

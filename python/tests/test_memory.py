@@ -1,7 +1,7 @@
 """What is kept and freed, threads, and several interpreters."""
 
 import gc
-import importlib
+import importlib.util
 import sys
 import threading
 import tracemalloc
@@ -176,11 +176,89 @@ class Memory(unittest.TestCase):
                 gc.collect()
                 self.assertIsNone(freed())
 
+    def test_cycles_are_collected_in_any_order(self):
+        # What comes first is cleared first: here the memoryview of the bytes, before what reads them.
+        rows = {
+            "frames": q.frames,
+            "a list": q.read_frames,
+            "a packet": lambda data: q.read_packet(data, 0, checks=q.Checks.GREASED_BIT),
+            "a frame that is made": lambda data: q.Crypto(0, data),
+        }
+        for name, make in rows.items():
+            with self.subTest(name):
+                found = make(bytearray(b"\x01\x01"))
+                holder = [found]
+                holder.append(holder)
+                del found, holder
+                gc.collect()
+
+    def test_a_module_is_freed_with_its_types(self):
+        again = importlib.util.module_from_spec(q._wire.__spec__)
+        again.__spec__.loader.exec_module(again)
+        freed = [weakref.ref(again), weakref.ref(again.Ping), weakref.ref(again.RangeSet)]
+        self.assertIsNot(again.Ping, q.Ping)
+        self.assertEqual(again.read_frames(b"\x01"), [again.Ping()])
+        del again
+        gc.collect()
+        self.assertEqual([one() for one in freed], [None] * 3)
+
+    def test_a_released_view_is_reported(self):
+        frame, found = q.read_frames(bytearray(b"\x06\x00\x01a"))[0], q.frames(bytearray(b"\x01" * 9))
+        next(found)
+        for one in (frame, found):
+            for owner in gc.get_referents(one):
+                if isinstance(owner, memoryview):
+                    owner.release()
+        for call in (lambda: frame.data, frame.encode, lambda: frame == frame, lambda: list(found)):
+            with self.assertRaisesRegex(ValueError, "released"):
+                call()
+
     def test_what_holds_bytes_is_not_tracked(self):
         # So a list of many frames costs the collector nothing.
         made = [q.read_frames(b"\x01")[0], q.frames(b"\x01"), q.Crypto(0, b"a"), q.read_packet(b"\x41", 0)]
         self.assertEqual([gc.is_tracked(one) for one in made], [False] * 4)
         self.assertTrue(gc.is_tracked(q.read_frames(bytearray(b"\x01"))[0]))
+
+
+class Finalized:
+    """Garbage, whose finalizer is this call."""
+
+    def __init__(self, call):
+        self.call, self.itself = call, self
+
+    def __del__(self):
+        self.call()
+
+
+class Finalizers(unittest.TestCase):
+    """CPython 3.11 collects garbage, and so runs finalizers, when an object is made in the midst of a call."""
+
+    def setUp(self):
+        self.addCleanup(gc.set_threshold, *gc.get_threshold())
+        self.addCleanup(gc.enable)
+        gc.disable()
+        gc.set_threshold(1)
+        self.kept = [[] for _ in range(200)]  # so that no list that was freed is used again
+
+    def test_that_change_a_set_while_it_is_listed(self):
+        numbers = q.RangeSet([(10 * i, 10 * i + 1) for i in range(100)])
+        changes = [lambda: numbers.remove(100, 1000), numbers.clear, lambda: [numbers.insert(10 * i) for i in range(99)]]
+        for change in changes:
+            Finalized(change)
+            gc.enable()
+            found = iter(numbers)
+            gc.disable()
+            self.assertEqual({type(one) for one in found} - {range}, set())
+            repr(numbers)
+
+    def test_that_read_the_same_frames(self):
+        found = q.frames(bytes.fromhex("01" + "1005" * 8))
+        Finalized(lambda: [next(found) for _ in range(5)])
+        gc.enable()
+        frame = next(found)
+        gc.disable()
+        self.assertEqual((type(frame), frame.type, frame.begin, frame.end), (q.Ping, 0x01, 0, 1))
+
 
 
 class Threads(unittest.TestCase):

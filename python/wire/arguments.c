@@ -63,6 +63,8 @@ int wire_arguments(const wire_state *state, wire_call_index call,
   const call_row *row = &calls[call];
   const Py_ssize_t named = names ? PyTuple_Size(names) : 0;
   Py_ssize_t i, at;
+  if (!state)
+    return -1;
   if (nargs > row->positional)
     return fail_count(row, nargs);
   for (i = 0; i < nargs; i++)

@@ -53,14 +53,18 @@ int wire_acquire(PyObject *owner, wire_bytes *out) {
 }
 
 void wire_release(wire_bytes *bytes) {
-  if (bytes->is_held)
-    PyBuffer_Release(&bytes->view);
+  const int is_held = bytes->is_held;
   bytes->is_held = 0;
+  if (is_held)
+    PyBuffer_Release(&bytes->view);
 }
 
 int wire_acquire_writable(PyObject *value, const char *name, wire_bytes *out) {
   out->is_held = 0;
   if (PyObject_GetBuffer(value, &out->view, PyBUF_WRITABLE) < 0) {
+    if (!PyErr_ExceptionMatches(PyExc_BufferError) &&
+        !PyErr_ExceptionMatches(PyExc_TypeError))
+      return -1;
     PyErr_Clear();
     return wire_fail(PyExc_TypeError,
                      "%s must be bytes that can be written to, as a bytearray",
@@ -136,6 +140,8 @@ static PyObject *view_of_bytes(wire_state *state, PyObject *owner, size_t begin,
 
 PyObject *wire_part(wire_state *state, PyObject *owner, size_t begin,
                     size_t len) {
+  if (!state)
+    return NULL;
   if (!owner || !len)
     return PyMemoryView_FromMemory((char *)"", 0, PyBUF_READ);
   if (PyBytes_CheckExact(owner))

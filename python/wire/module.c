@@ -24,9 +24,11 @@ static int set_names(PyObject *type, const PyGetSetDef *fields) {
   while (fields[count].name)
     count++;
   names = PyTuple_New(count);
-  for (i = 0; names && i < count; i++)
-    if (PyTuple_SetItem(names, i, PyUnicode_FromString(fields[i].name)) < 0)
+  for (i = 0; names && i < count; i++) {
+    PyObject *name = PyUnicode_FromString(fields[i].name);
+    if (!name || PyTuple_SetItem(names, i, name) < 0)
       Py_CLEAR(names);
+  }
   result = names && none ? wire_set_constant(type, "__match_args__", names)
                          : -1;
   if (result == 0)
@@ -118,15 +120,14 @@ static int traverse(PyObject *module, visitproc visit, void *arg) {
   return 0;
 }
 
-static int clear(PyObject *module) {
+/* There is no m_clear: what finalizers still call needs the types. The garbage
+ * collector clears these, and so frees the module, which each of them holds. */
+static void free_module(void *module) {
   wire_state *state = PyModule_GetState(module);
   size_t i;
   for (i = 0; state && i < OBJECTS; i++)
     Py_CLEAR(*object_at(state, i));
-  return 0;
 }
-
-static void free_module(void *module) { clear(module); }
 
 /* The limited API of 3.11 lacks this slot, and the interpreter knows it from
  * 3.12 on. */
@@ -152,7 +153,7 @@ static struct PyModuleDef definition = {
     NULL,
     slots_of_3_11,
     traverse,
-    clear,
+    NULL,
     free_module};
 
 PyMODINIT_FUNC PyInit__wire(void) {

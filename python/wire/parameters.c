@@ -337,17 +337,14 @@ static PyObject *parameters_as_dict(PyObject *self, PyObject *const *args,
 /* By the names that were given, so that they are given again. */
 static PyObject *parameters_reduce(PyObject *self,
                                    PyObject *Py_UNUSED(unused)) {
-  PyObject *dict = dict_of(self, PRESENT);
-  PyObject *maker = NULL, *from = PyImport_ImportModule("quic_wire.parameters");
-  if (from)
-    maker = PyObject_GetAttrString(from, "_of_dict");
+  PyObject *dict = dict_of(self, PRESENT), *maker;
+  PyObject *from = dict ? PyImport_ImportModule("quic_wire.parameters") : NULL;
+  maker = from ? PyObject_GetAttrString(from, "_of_dict") : NULL;
   Py_XDECREF(from);
-  if (!dict || !maker) {
-    Py_XDECREF(dict);
-    Py_XDECREF(maker);
-    return NULL;
-  }
-  return Py_BuildValue("(N(N))", maker, dict);
+  if (maker)
+    return Py_BuildValue("(N(N))", maker, dict);
+  Py_XDECREF(dict);
+  return NULL;
 }
 
 static PyObject *parameters_repr(PyObject *self) {

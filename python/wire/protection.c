@@ -80,6 +80,7 @@ static PyObject *protect(PyObject *module, PyObject *const *args,
   enum { PACKET, NUMBER_AT, MASK, COUNT };
   PyObject *given[COUNT], *out = NULL;
   wire_bytes packet, mask;
+  uint8_t own[MASK_LEN]; /* since the mask may be a part of the packet */
   Py_ssize_t at;
   int result;
   if (wire_arguments(PyModule_GetState(module), CALL_protect, args, nargs,
@@ -89,8 +90,9 @@ static PyObject *protect(PyObject *module, PyObject *const *args,
     return NULL;
   if (wire_acquire(given[MASK], &mask) == 0) {
     if (check_mask(at, &mask) == 0) {
-      result = quic_wire_protect(packet.view.buf, packet.len, (size_t)at,
-                                 mask.at);
+      memcpy(own, mask.at, MASK_LEN);
+      result =
+          quic_wire_protect(packet.view.buf, packet.len, (size_t)at, own);
       out = result < 0 ? reject(result, &packet) : PyLong_FromLong(result);
     }
     wire_release(&mask);
@@ -189,7 +191,7 @@ static PyObject *header_bytes(const quic_wire_header_fields *fields,
   result = quic_wire_header_write(fields, dcid->at, dcid->len, scid->at,
                                   scid->len, token->at, token->len, at, room);
   if (out || result < 0)
-    return wire_written(out, (int)result, (size_t)result);
+    return wire_written(out, result < 0 ? (int)result : 0, (size_t)result);
   return PyBytes_FromStringAndSize((char *)small, (Py_ssize_t)result);
 }
 

@@ -6,9 +6,10 @@
  * iterator, which the interpreter's own allocator still has room for. */
 enum { BATCH = 16, AHEAD = 4 };
 
+/* It holds no buffer between calls, since the garbage collector may clear a
+ * memoryview before what has a buffer of it. */
 typedef struct iterator_object {
   PyObject_HEAD PyObject *owner;
-  wire_bytes bytes;
   quic_wire_frame_iter iter;
   size_t next, count; /* of those that were read ahead */
   quic_wire_frame ahead[AHEAD];
@@ -55,7 +56,6 @@ static void iterator_dealloc(PyObject *self) {
   iterator_object *o = (iterator_object *)self;
   PyTypeObject *type = Py_TYPE(self);
   PyObject_GC_UnTrack(self);
-  wire_release(&o->bytes);
   Py_XDECREF(o->owner);
   PyObject_GC_Del(self);
   Py_DECREF(type);
@@ -65,27 +65,34 @@ static int iterator_visit(PyObject *self, visitproc visit, void *arg) {
   iterator_object *o = (iterator_object *)self;
   Py_VISIT(Py_TYPE(self));
   Py_VISIT(o->owner);
-  if (o->bytes.is_held)
-    Py_VISIT(o->bytes.view.obj);
   return 0;
+}
+
+/* Reads ahead: QUIC_WIRE_ITEM, 0 at the end, or an error, with an exception. */
+static int read_ahead(iterator_object *o) {
+  wire_bytes bytes;
+  int result;
+  if (wire_acquire(o->owner, &bytes) < 0)
+    return QUIC_WIRE_ERR_ARGUMENT;
+  result = fill(&o->iter, &bytes, o->ahead, AHEAD, &o->count);
+  o->next = 0;
+  if (result != QUIC_WIRE_ITEM)
+    o->count = 0;
+  if (result < 0)
+    reject(result, &bytes, &o->iter, o->ahead, Py_None);
+  wire_release(&bytes);
+  return result;
 }
 
 static PyObject *next_frame(PyObject *self) {
   iterator_object *o = (iterator_object *)self;
   wire_state *state = WIRE_STATE(self);
-  if (!state)
+  quic_wire_frame frame;
+  if (!state || (o->next == o->count && read_ahead(o) != QUIC_WIRE_ITEM))
     return NULL;
-  if (o->next == o->count) {
-    int result = fill(&o->iter, &o->bytes, o->ahead, AHEAD, &o->count);
-    o->next = 0;
-    if (result != QUIC_WIRE_ITEM)
-      o->count = 0;
-    if (result < 0)
-      return reject(result, &o->bytes, &o->iter, o->ahead, Py_None);
-    if (result == QUIC_WIRE_OK)
-      return NULL;
-  }
-  return frame_made(state, o->owner, &o->ahead[o->next++]);
+  /* A new object may begin a garbage collection, whose finalizers may read on. */
+  frame = o->ahead[o->next++];
+  return frame_made(state, o->owner, &frame);
 }
 
 static PyObject *iterator_next(PyObject *self) {
@@ -108,10 +115,14 @@ static PyObject *iterator_offset(PyObject *self, void *Py_UNUSED(unused)) {
 /* What was read ahead is read again if |end| lies within it. */
 static int skip(iterator_object *o, size_t end, uint64_t type) {
   quic_wire_frame_iter iter = o->iter;
+  wire_bytes bytes;
   int result;
+  if (wire_acquire(o->owner, &bytes) < 0)
+    return -1;
   if (o->next < o->count)
     iter.offset = o->ahead[o->next].begin;
-  result = quic_wire_frames_skip(&iter, o->bytes.at, o->bytes.len, end, type);
+  result = quic_wire_frames_skip(&iter, bytes.at, bytes.len, end, type);
+  wire_release(&bytes);
   if (result != QUIC_WIRE_ITEM)
     return wire_fail(PyExc_ValueError,
                      "end must be above the offset of the next frame, and at "
@@ -210,6 +221,7 @@ static PyObject *frames(PyObject *module, PyObject *const *args,
                         Py_ssize_t nargs, PyObject *names) {
   wire_state *state = PyModule_GetState(module);
   payload_arguments how;
+  wire_bytes bytes;
   int result;
   iterator_object *o;
   if (parse(module, CALL_frames, args, nargs, names, &how) < 0)
@@ -217,18 +229,19 @@ static PyObject *frames(PyObject *module, PyObject *const *args,
   o = PyObject_GC_New(iterator_object, (PyTypeObject *)state->iterator);
   if (!o)
     return NULL;
-  o->bytes.is_held = 0;
   o->next = o->count = 0;
-  o->owner = open_payload(&how, &o->bytes);
+  o->owner = open_payload(&how, &bytes);
   if (!o->owner) {
     Py_DECREF((PyObject *)o);
     return NULL;
   }
-  result = start(&o->iter, &o->bytes, &how);
-  if (result < 0) {
-    reject(result, &o->bytes, &o->iter, o->ahead, Py_None);
+  result = start(&o->iter, &bytes, &how);
+  if (result < 0)
+    reject(result, &bytes, &o->iter, o->ahead, Py_None);
+  wire_release(&bytes);
+  if (result < 0)
     Py_CLEAR(o);
-  } else
+  else
     wire_track((PyObject *)o, o->owner);
   return (PyObject *)o;
 }

@@ -107,24 +107,18 @@ quic_wire_range *numbers_of_set(PyObject *self, size_t *count) {
   return out ? out : (quic_wire_range *)PyErr_NoMemory();
 }
 
-/* The ranges as a list, ascending. */
-static PyObject *list_of(set_object *set) {
-  PyObject *list = PyList_New((Py_ssize_t)set->set.count);
-  const quic_wire_range *runs = set->runs + set->set.first;
-  size_t i;
-  for (i = 0; list && i < set->set.count; i++) {
+/* The ranges as a list, ascending. It is made of a copy: a new list may begin a
+ * garbage collection, which runs finalizers, and these may change the set. */
+static PyObject *ranges_of(PyObject *self) {
+  size_t count, i;
+  quic_wire_range *runs = numbers_of_set(self, &count);
+  PyObject *list = runs ? PyList_New((Py_ssize_t)count) : NULL;
+  for (i = 0; list && i < count; i++) {
     PyObject *range = wire_range(&runs[i]);
     if (!range || PyList_SetItem(list, (Py_ssize_t)i, range) < 0)
       Py_CLEAR(list);
   }
-  return list;
-}
-
-static PyObject *ranges_of(PyObject *self) {
-  PyObject *list;
-  WIRE_BEGIN_ALONE(self);
-  list = list_of(SET(self));
-  WIRE_END_ALONE;
+  PyMem_Free(runs);
   return list;
 }
 

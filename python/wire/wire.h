@@ -63,7 +63,8 @@ typedef struct wire_state {
   PyObject *parameter_names[PARAMETERS];
 } wire_state;
 
-/* The state of the module that has the type of an object. */
+/* The state of the module that has the type of an object. NULL with an exception
+ * for a type that the garbage collector has cleared. */
 #define WIRE_STATE(self) ((wire_state *)PyType_GetModuleState(Py_TYPE(self)))
 
 /* ---- datagrams.c: how packets are read */
@@ -96,7 +97,8 @@ PyObject *wire_owner(PyObject *value);
  * exception. */
 int wire_acquire(PyObject *owner, wire_bytes *out);
 void wire_release(wire_bytes *bytes);
-/* A memoryview of a part of an owner's bytes, and a copy of it. */
+/* A memoryview of a part of an owner's bytes, and a copy of it. NULL with an
+ * exception, also if |state| is NULL. */
 PyObject *wire_part(wire_state *state, PyObject *owner, size_t begin,
                     size_t len);
 PyObject *wire_copy(PyObject *owner, size_t begin, size_t len);
@@ -115,7 +117,7 @@ PyObject *wire_written(PyObject *bytes, int result, size_t len);
 
 /* The arguments of a call in their order, however they are given: borrowed, and
  * NULL if not given. The call is METH_FASTCALL, with METH_KEYWORDS if |names|
- * may be there. -1 with an exception. */
+ * may be there. -1 with an exception, also if |state| is NULL. */
 int wire_arguments(const wire_state *state, wire_call_index call,
                    PyObject *const *args, Py_ssize_t nargs, PyObject *names,
                    PyObject **out);

@@ -124,8 +124,12 @@ static int intern_fields(wire_state *state) {
 }
 
 int wire_intern(wire_state *state) {
-  if (intern(&state->start, "start") < 0 || intern(&state->stop, "stop") < 0 ||
-      intern(&state->step, "step") < 0 || intern_arguments(state) < 0)
+  PyObject *range = (PyObject *)&PyRange_Type;
+  state->start = PyObject_GetAttrString(range, "start");
+  state->stop = PyObject_GetAttrString(range, "stop");
+  state->step = PyObject_GetAttrString(range, "step");
+  if (!state->start || !state->stop || !state->step ||
+      intern_arguments(state) < 0)
     return -1;
   return intern_fields(state);
 }
@@ -251,15 +255,18 @@ static int ends_of(PyObject *first, PyObject *last, quic_wire_range *out) {
   return wire_number(last, "the end of a range", &out->end);
 }
 
-/* The ends of a `range`; another step would be other numbers. */
+/* The ends of a `range`; another step would be other numbers. Its attributes are
+ * those of its class, so they needn't be looked up. */
 static int ends_of_range(const wire_state *state, PyObject *range,
                          quic_wire_range *out) {
-  PyObject *first = PyObject_GetAttr(range, state->start);
-  PyObject *last = first ? PyObject_GetAttr(range, state->stop) : NULL;
-  PyObject *step = last ? PyObject_GetAttr(range, state->step) : NULL;
-  uint64_t number = 1;
+  const descrgetfunc get =
+      (descrgetfunc)PyType_GetSlot(Py_TYPE(state->start), Py_tp_descr_get);
+  PyObject *type = (PyObject *)&PyRange_Type;
+  PyObject *first = get(state->start, range, type);
+  PyObject *last = first ? get(state->stop, range, type) : NULL;
+  PyObject *step = last ? get(state->step, range, type) : NULL;
   int result = -1;
-  if (step && (wire_number(step, "step", &number) < 0 || number != 1)) {
+  if (step && PyLong_AsLong(step) != 1) {
     PyErr_Clear();
     PyErr_SetString(PyExc_ValueError, not_a_range);
   } else if (step)
@@ -310,22 +317,37 @@ static void sort(quic_wire_range *ranges, size_t count) {
     qsort(ranges, count, sizeof *ranges, by_start);
 }
 
-/* The set of these ranges, which it frees: each is inserted behind the others,
- * so that none is moved. */
+/* Whether sorted ranges are a set: none is empty, and none touches the next. */
+static int is_set(const quic_wire_range *ranges, size_t count) {
+  size_t i;
+  for (i = 0; i < count; i++)
+    if (ranges[i].start >= ranges[i].end ||
+        (i && ranges[i - 1].end >= ranges[i].start))
+      return 0;
+  return 1;
+}
+
+/* The set of these ranges, which it frees unless they are |few|: each is
+ * inserted behind the others, so that none is moved. */
 static quic_wire_range *set_of(quic_wire_range *ranges, size_t len,
-                               size_t *count) {
+                               const quic_wire_range *few, size_t *count) {
   const size_t room = len + 1;
-  quic_wire_range *runs = PyMem_Calloc(room, sizeof *runs);
+  quic_wire_range *runs;
   quic_wire_runs set = {0, 0};
   size_t i;
   int result = 0;
+  sort(ranges, len);
+  *count = len;
+  if (is_set(ranges, len))
+    return ranges;
+  runs = PyMem_Calloc(room, sizeof *runs);
   if (!runs)
     PyErr_NoMemory();
-  sort(ranges, len);
   for (i = 0; runs && result >= 0 && i < len; i++)
     result = quic_wire_runs_insert(runs, room, &set, ranges[i].start,
                                    ranges[i].end);
-  PyMem_Free(ranges);
+  if (ranges != few)
+    PyMem_Free(ranges);
   if (result < 0) {
     PyMem_Free(runs);
     return (quic_wire_range *)wire_mistake(result);
@@ -336,8 +358,28 @@ static quic_wire_range *set_of(quic_wire_range *ranges, size_t len,
   return runs;
 }
 
+/* The ranges of a list that has nothing else, if they are few: how many, or -1,
+ * also with an exception. No code of Python runs that could change the list. */
+static Py_ssize_t few_of_list(const wire_state *state, PyObject *list,
+                              quic_wire_range *few) {
+#ifdef Py_GIL_DISABLED
+  (void)state, (void)list, (void)few;
+  return -1; /* another thread could */
+#else
+  const Py_ssize_t len = PyList_Size(list);
+  Py_ssize_t i;
+  for (i = 0; i < len; i++) {
+    PyObject *one = PyList_GetItem(list, i);
+    if (len > FEW_RANGES || !Py_IS_TYPE(one, &PyRange_Type) ||
+        ends_of_range(state, one, &few[i]) < 0)
+      return -1;
+  }
+  return len;
+#endif
+}
+
 quic_wire_range *wire_ranges(const wire_state *state, PyObject *ranges,
-                             size_t *count) {
+                             quic_wire_range *few, size_t *count) {
   PyObject *all, *type = (PyObject *)Py_TYPE(ranges);
   quic_wire_range *out;
   Py_ssize_t len, i;
@@ -345,11 +387,19 @@ quic_wire_range *wire_ranges(const wire_state *state, PyObject *ranges,
     return numbers_of_set(ranges, count);
   if (type == state->frames[KIND_ACK])
     return frame_ranges(ranges, count);
+  if (few && PyList_CheckExact(ranges)) {
+    len = few_of_list(state, ranges, few);
+    if (len >= 0)
+      return set_of(few, (size_t)len, few, count);
+    if (PyErr_Occurred())
+      return NULL;
+  }
   all = PySequence_Tuple(ranges);
   if (!all)
     return NULL;
   len = PyTuple_Size(all);
-  out = PyMem_Calloc((size_t)len + 1, sizeof *out);
+  out = few && len <= FEW_RANGES ? few
+                                 : PyMem_Calloc((size_t)len + 1, sizeof *out);
   if (!out)
     PyErr_NoMemory();
   for (i = 0; out && i < len; i++) {
@@ -357,12 +407,13 @@ quic_wire_range *wire_ranges(const wire_state *state, PyObject *ranges,
     if ((PyObject_TypeCheck(one, &PyRange_Type)
              ? ends_of_range(state, one, &out[i])
              : ends_of_pair(one, &out[i])) < 0) {
-      PyMem_Free(out);
+      if (out != few)
+        PyMem_Free(out);
       out = NULL;
     }
   }
   Py_DECREF(all);
-  return out ? set_of(out, (size_t)len, count) : NULL;
+  return out ? set_of(out, (size_t)len, few, count) : NULL;
 }
 
 PyObject *wire_range(const quic_wire_range *range) {

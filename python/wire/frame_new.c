@@ -172,13 +172,14 @@ static PyObject *ack_bytes(uint64_t delay, const quic_wire_range *runs,
 static int finish_ack(maker *m) {
   quic_wire_frame *f = &m->made->f;
   const uint64_t largest = f->ack.largest;
-  quic_wire_range *runs, only = {largest, largest + 1};
+  quic_wire_range few[FEW_RANGES] = {{largest, largest + 1}}, *runs = few;
   size_t count = 1;
   quic_wire_frame_iter iter;
   wire_bytes bytes;
   int result = QUIC_WIRE_ERR_RANGES;
   PyObject *ack = NULL;
-  runs = m->ranges ? wire_ranges(m->state, m->ranges, &count) : &only;
+  if (m->ranges)
+    runs = wire_ranges(m->state, m->ranges, few, &count);
   if (!runs)
     return -1;
   if (count && largest && runs[count - 1].end - 1 != largest)
@@ -186,7 +187,7 @@ static int finish_ack(maker *m) {
                     "largest must be the greatest number of ranges");
   else
     ack = ack_bytes(f->ack.delay, runs, count, m->has_ecn ? m->ecn : NULL);
-  if (runs != &only)
+  if (runs != few)
     PyMem_Free(runs);
   if (!ack || set_owner(m, ack) < 0 || wire_acquire(ack, &bytes) < 0)
     return -1;
@@ -318,20 +319,28 @@ static PyObject *encode_other(PyObject *self, uint32_t flags) {
   return frame_reject(self, result);
 }
 
-PyObject *frame_encode(PyObject *self, PyObject *const *args, Py_ssize_t nargs,
-                       PyObject *names) {
+/* The arguments of encode as flags of writers: -1 with an exception. */
+static int encode_flags(PyObject *self, PyObject *const *args,
+                        Py_ssize_t nargs, PyObject *names, uint32_t *out) {
   enum { LAST, CHECKS, COUNT };
   PyObject *given[COUNT];
   int last;
-  uint32_t flags;
   if (wire_arguments(WIRE_STATE(self), CALL_Frame_encode, args, nargs, names,
                      given) < 0 ||
-      wire_checks(given[CHECKS], &flags) < 0)
-    return NULL;
+      wire_checks(given[CHECKS], out) < 0)
+    return -1;
   last = given[LAST] ? PyObject_IsTrue(given[LAST]) : 0;
   if (last < 0)
+    return -1;
+  *out = (*out & QUIC_WIRE_WRITE_RFC) | (last ? QUIC_WIRE_WRITE_LAST : 0);
+  return 0;
+}
+
+PyObject *frame_encode(PyObject *self, PyObject *const *args, Py_ssize_t nargs,
+                       PyObject *names) {
+  uint32_t flags = 0;
+  if ((nargs || names) && encode_flags(self, args, nargs, names, &flags) < 0)
     return NULL;
-  flags = (flags & QUIC_WIRE_WRITE_RFC) | (last ? QUIC_WIRE_WRITE_LAST : 0);
   switch (FRAME(self)->kind) {
   case QUIC_WIRE_FRAME_PADDING: return encode_padding(self);
   case QUIC_WIRE_FRAME_ACK: return encode_ack(self);

@@ -176,14 +176,15 @@ static void set_dealloc(PyObject *self) {
 static PyObject *set_new(PyTypeObject *type, PyObject *args,
                          PyObject *keywords) {
   static char *names[] = {"ranges", NULL};
+  const wire_state *state = PyType_GetModuleState(type);
   PyObject *ranges = NULL;
   set_object *set;
   size_t count = 0;
   quic_wire_range *runs;
-  if (!PyArg_ParseTupleAndKeywords(args, keywords, "|O:RangeSet", names,
-                                   &ranges))
+  if (!state || !PyArg_ParseTupleAndKeywords(args, keywords, "|O:RangeSet",
+                                             names, &ranges))
     return NULL;
-  runs = ranges ? wire_ranges(PyType_GetModuleState(type), ranges, &count)
+  runs = ranges ? wire_ranges(state, ranges, NULL, &count)
                 : PyMem_Calloc(ROOM, sizeof *runs);
   if (!runs)
     return PyErr_Occurred() ? NULL : PyErr_NoMemory();

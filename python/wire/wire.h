@@ -57,7 +57,7 @@ typedef struct wire_state {
   PyObject *parameters;
   PyObject *set;
   PyObject *part;
-  PyObject *start, *stop, *step;                /* of a range */
+  PyObject *start, *stop, *step;                /* descriptors of a range */
   PyObject *arguments[CALLS][MOST_ARGUMENTS];   /* NULL: only by position */
   PyObject *fields[KINDS][MOST_FRAME_FIELDS];        /* of frames */
   PyObject *parameter_names[PARAMETERS];
@@ -121,7 +121,8 @@ PyObject *wire_written(PyObject *bytes, int result, size_t len);
 int wire_arguments(const wire_state *state, wire_call_index call,
                    PyObject *const *args, Py_ssize_t nargs, PyObject *names,
                    PyObject **out);
-/* Interns the names of the state: -1 with an exception. */
+/* Interns the names of the state, and finds the descriptors: -1 with an
+ * exception. */
 int wire_intern(wire_state *state);
 
 /* Each of these is -1 with an exception that names the argument. */
@@ -146,10 +147,12 @@ int wire_checks(PyObject *value, uint32_t *out);
  * with an exception. */
 uint32_t *wire_versions(PyObject *versions, size_t *count);
 /* The numbers of a RangeSet, of an Ack, or of an iterable of `range` or of
- * pairs, as a set with room for one more range: free it with PyMem_Free.  NULL
+ * pairs, as a set: in |few|, the caller's FEW_RANGES or NULL, or in new memory
+ * with room for one more range, which the caller frees with PyMem_Free.  NULL
  * with an exception. */
+enum { FEW_RANGES = 8 };
 quic_wire_range *wire_ranges(const wire_state *state, PyObject *ranges,
-                             size_t *count);
+                             quic_wire_range *few, size_t *count);
 /* A `range` of Python. */
 PyObject *wire_range(const quic_wire_range *range);
 

@@ -25,6 +25,7 @@ from .errors import _parameter_cut_off
 
 __all__ = ["Parameter", "PreferredAddress", "Side", "TransportParameters", "parameters"]
 
+_ROWS = {number: known.order for number, known in KNOWN.items()}
 _FURTHER_ROW = len(PARAMETERS)
 _MOST_FURTHER = 256 - _FURTHER_ROW  # a row is a byte
 _SMALL = 1000  # greater bounds are written as powers of 2
@@ -41,6 +42,9 @@ class Side(enum.IntEnum):
 
     CLIENT = 0
     SERVER = 1
+
+
+_SIDES = tuple(Side)
 
 
 @dataclass(frozen=True, slots=True)
@@ -73,22 +77,26 @@ class TransportParameters(_Parameters):
         ids that come first, each once, in their order; the others follow. Raises ValueError if the peer would reject
         the list.
         """
-        if side not in (Side.CLIENT, Side.SERVER):
+        if side not in _SIDES:
             raise ValueError("side must be Side.CLIENT or Side.SERVER")
-        more, first_ids = list(further), list(order)
-        _check_ids([number for number, _ in more], first_ids)
-        rows = {number: known.order for number, known in KNOWN.items()}
-        rows |= {number: _FURTHER_ROW + i for i, (number, _) in enumerate(more)}
-        first = [rows[number] for number in first_ids]
-        rest = sorted({*range(_FURTHER_ROW), *rows.values()} - set(first))
-        listed = b"".join(write_parameter(number, value) for number, value in more)
+        more, first = list(further), list(order)
+        ids = [number for number, _ in more]
+        _check_ids(ids, first)
+        listed = b"".join([write_parameter(number, value) for number, value in more])
         try:
-            return self._write(side, listed, bytes(first + rest) if first else b"")
+            return self._write(side, listed, _rows(ids, first) if first else b"")
         except ValueError:
             fault = self._write_fault(side)
             if fault is None:
                 raise
             raise ValueError(_why_rejected(self, *fault)) from None
+
+
+def _rows(further: list[int], first: list[int]) -> bytes:
+    """The rows of all parameters, those of these ids first, as _write is given them."""
+    rows = _ROWS | {number: _FURTHER_ROW + i for i, number in enumerate(further)}
+    begin = [rows[number] for number in first]
+    return bytes(begin + sorted({*range(_FURTHER_ROW), *rows.values()}.difference(begin)))
 
 
 def _shown(number: int) -> str:

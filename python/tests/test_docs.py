@@ -4,31 +4,62 @@ import contextlib
 import doctest
 import importlib
 import pathlib
+import re
 import unittest
 
 MODULES = ("quic_wire", "quic_wire.keylog", "quic_wire.protection")
 README = pathlib.Path(__file__).parents[1] / "README.md"
 REPOSITORY = pathlib.Path(__file__).parents[2]
+# Each of its sections, headed by the package that it needs, has examples of its own behind those of the beginning.
+WITH_OTHERS = REPOSITORY / "docs" / "PYTHON.md"
 in_repository = contextlib.chdir(REPOSITORY)  # the examples name its files
+
+
+def has(module):
+    try:
+        importlib.import_module(module)
+    except ImportError:
+        return False
+    return True
+
+
+def suite_of(text, name):
+    """The examples of a text, which begin in the repository."""
+    test = doctest.DocTestParser().get_doctest(text, {}, name, name, 0)
+    return doctest.DocTestCase(
+        test,
+        optionflags=doctest.ELLIPSIS,
+        setUp=lambda test: in_repository.__enter__(),
+        tearDown=lambda test: in_repository.__exit__(),
+    )
+
+
+def sections():
+    """For each package the beginning of the document and the section on it."""
+    begin, *rest = re.split(r"^## (\w+)$", WITH_OTHERS.read_text(), flags=re.M)
+    return {package: begin + text for package, text in zip(rest[::2], rest[1::2])}
+
+
+class Skipped(unittest.TestCase):
+    """Examples of a package that isn't there."""
+
+    def __init__(self, package):
+        super().__init__()
+        self.package = package
+
+    def runTest(self):
+        self.skipTest(f"{self.package} isn't there")
 
 
 def load_tests(loader, tests, pattern):
     modules = list(MODULES)
-    try:
-        importlib.import_module("quic_wire.ciphers")
-    except ImportError:
-        pass
-    else:
+    if has("quic_wire.ciphers"):
         modules.append("quic_wire.ciphers")
         if (REPOSITORY / "c" / "tests").is_dir():
-            suite = doctest.DocFileSuite(
-                str(README),
-                module_relative=False,
-                optionflags=doctest.ELLIPSIS,
-                setUp=lambda test: in_repository.__enter__(),
-                tearDown=lambda test: in_repository.__exit__(),
-            )
-            tests.addTest(suite)
+            tests.addTest(suite_of(README.read_text(), README.name))
+        if (REPOSITORY / "vectors" / "captures").is_dir():
+            for package, text in sections().items():
+                tests.addTest(suite_of(text, package) if has(package) else Skipped(package))
     for name in modules:
         tests.addTest(doctest.DocTestSuite(name, optionflags=doctest.ELLIPSIS))
     return tests

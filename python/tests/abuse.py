@@ -31,6 +31,7 @@ except ImportError:  # in some interpreters below another
 EXPECTED = (ValueError, TypeError, BufferError, MemoryError)
 PAYLOAD = bytes.fromhex("0001" "0600026162" "0a000163" "03090501010002010203" "0000" "180201026162" + "07" * 16)
 SHOWN = 200  # characters of a fault
+PAGES = 512  # that a process may take more, since malloc keeps some
 faults = []
 
 
@@ -359,22 +360,44 @@ def use_all():
     return 60
 
 
-def blocks_after(rounds):
-    """How many blocks of memory there are after so many rounds."""
-    for _ in range(rounds):
-        use_all()
+def held():
+    """What must not grow: the interpreter's blocks of memory, all references in a debug build, and on Linux the pages
+    of the process, which also count what the interpreter leaves to malloc."""
     gc.collect()
-    return sys.getallocatedblocks()
+    found = {"blocks": sys.getallocatedblocks()}
+    if hasattr(sys, "gettotalrefcount"):
+        found["references"] = sys.gettotalrefcount()
+    with contextlib.suppress(OSError), open("/proc/self/statm") as pages:
+        found["pages"] = int(pages.read().split()[1])
+    return found
 
 
-def try_leaks(_, count):
-    """Blocks of memory don't grow with the number of calls: what leaks a block is left five times a round."""
-    rounds = max(1, count // use_all() // 8)
-    blocks = [blocks_after(rounds) for _ in range(8)]
-    grown = [after - before for before, after in zip(blocks[2:], blocks[3:])]
-    if sum(grown) > rounds // 2 + 200:
-        fault("blocks grow", blocks)
-    return 8 * rounds * 60
+def does_grow(calls, count, what):
+    """Repeats calls, of which there are so many, eight times. The first ones fill what is kept; if one of the others
+    leaks a block or a reference, that is left five times."""
+    after = []
+    for _ in range(8):
+        calls()
+        after.append(held())
+    grown = {name: after[-1][name] - after[2][name] for name in after[0]}
+    print(f"{what}: {8 * count:,} calls left {grown}", flush=True)
+    for name, number in grown.items():
+        if number > (PAGES if name == "pages" else count // 120 + 200):
+            fault(f"{name} grow", [one[name] for one in after])
+
+
+def try_leaks(chance, count):
+    """What is held doesn't grow with the number of calls: those of each kind, and the same hostile ones again."""
+    rounds, seed = max(1, count // use_all() // 8), chance.random()
+
+    def use():
+        for _ in range(rounds):
+            use_all()
+
+    does_grow(use, 60 * rounds, "calls of each kind")
+    does_grow(lambda: try_arguments(random.Random(seed), count // 8), count // 8, "hostile arguments")
+    does_grow(lambda: try_buffers(random.Random(seed), count // 160), count // 160, "buffers")
+    return 8 * (60 * rounds + count // 8 + count // 160)
 
 
 def main():

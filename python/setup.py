@@ -83,10 +83,10 @@ class CopyPrograms(build_scripts):
 def lacking(compiler, folders):
     """What a machine lacks to build the module, and how to get it; None if nothing."""
     if not any((pathlib.Path(folder) / "Python.h").is_file() for folder in folders):
-        return "Python.h is missing: install Python's headers (python3-dev; Fedora: python3-devel)"
+        return "Python.h is missing: install Python's headers (Debian's python3-dev; Fedora: python3-devel)"
     command = getattr(compiler, "compiler_so", None)
     if command and not shutil.which(command[0]):
-        return f"the C compiler {command[0]} isn't on the path"
+        return f"the C compiler {command[0]} isn't on the path: install one (Debian's gcc and libc6-dev; Fedora: gcc)"
     return None
 
 

@@ -40,15 +40,13 @@ def sections():
     return {package: begin + text for package, text in zip(rest[::2], rest[1::2])}
 
 
-class Skipped(unittest.TestCase):
-    """Examples of a package that isn't there."""
+def skipped(package):
+    """For examples of a package that isn't there."""
 
-    def __init__(self, package):
-        super().__init__()
-        self.package = package
+    def skip():
+        raise unittest.SkipTest(f"{package} isn't there")
 
-    def runTest(self):
-        self.skipTest(f"{self.package} isn't there")
+    return unittest.FunctionTestCase(skip, description=package)
 
 
 def load_tests(loader, tests, pattern):
@@ -59,7 +57,7 @@ def load_tests(loader, tests, pattern):
             tests.addTest(suite_of(README.read_text(), README.name))
         if (REPOSITORY / "vectors" / "captures").is_dir():
             for package, text in sections().items():
-                tests.addTest(suite_of(text, package) if has(package) else Skipped(package))
+                tests.addTest(suite_of(text, package) if has(package) else skipped(package))
     for name in modules:
         tests.addTest(doctest.DocTestSuite(name, optionflags=doctest.ELLIPSIS))
     return tests

@@ -55,7 +55,7 @@ def load_tests(loader, tests, pattern):
         modules.append("quic_wire.ciphers")
         if (REPOSITORY / "c" / "tests").is_dir():
             tests.addTest(suite_of(README.read_text(), README.name))
-        if (REPOSITORY / "vectors" / "captures").is_dir():
+        if WITH_OTHERS.is_file():
             for package, text in sections().items():
                 tests.addTest(suite_of(text, package) if has(package) else skipped(package))
     for name in modules:

@@ -31,7 +31,8 @@ except ImportError:  # in some interpreters below another
 EXPECTED = (ValueError, TypeError, BufferError, MemoryError)
 PAYLOAD = bytes.fromhex("0001" "0600026162" "0a000163" "03090501010002010203" "0000" "180201026162" + "07" * 16)
 SHOWN = 200  # characters of a fault
-PAGES = 512  # that a process may take more, since malloc keeps some
+TIMES = 16  # that calls are done again
+SLACK = 60  # blocks, references or pages that may be left each time, as those of what is printed
 faults = []
 
 
@@ -373,31 +374,33 @@ def held():
 
 
 def does_grow(calls, count, what):
-    """Repeats calls, of which there are so many, eight times. The first ones fill what is kept; if one of the others
-    leaks a block or a reference, that is left five times."""
+    """Repeats calls, of which there are so many. What the interpreter keeps is left by some of the times, by the first
+    ones above all, and what leaks by each."""
     after = []
-    for _ in range(8):
+    for _ in range(TIMES):
         calls()
         after.append(held())
-    grown = {name: after[-1][name] - after[2][name] for name in after[0]}
-    print(f"{what}: {8 * count:,} calls left {grown}", flush=True)
-    for name, number in grown.items():
-        if number > (PAGES if name == "pages" else count // 120 + 200):
+    last = after[TIMES // 2 :]
+    left = {name: min(later[name] - one[name] for one, later in zip(last, last[1:])) for name in after[0]}
+    print(f"{what}: {count:,} calls, done again, leave {left}", flush=True)
+    for name, number in left.items():
+        if number > SLACK:
             fault(f"{name} grow", [one[name] for one in after])
 
 
 def try_leaks(chance, count):
     """What is held doesn't grow with the number of calls: those of each kind, and the same hostile ones again."""
-    rounds, seed = max(1, count // use_all() // 8), chance.random()
+    rounds, seed = max(2 * SLACK, count // use_all() // TIMES), chance.random()
 
     def use():
         for _ in range(rounds):
             use_all()
 
     does_grow(use, 60 * rounds, "calls of each kind")
-    does_grow(lambda: try_arguments(random.Random(seed), count // 8), count // 8, "hostile arguments")
-    does_grow(lambda: try_buffers(random.Random(seed), count // 160), count // 160, "buffers")
-    return 8 * (60 * rounds + count // 8 + count // 160)
+    hostile, buffered = count // TIMES, count // TIMES // 20
+    does_grow(lambda: try_arguments(random.Random(seed), hostile), hostile, "hostile arguments")
+    does_grow(lambda: try_buffers(random.Random(seed), buffered), buffered, "buffers")
+    return TIMES * (60 * rounds + hostile + buffered)
 
 
 def main():

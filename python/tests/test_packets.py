@@ -132,6 +132,12 @@ class Packets(unittest.TestCase):
         self.assertEqual(q.protect(bare, 1, mask), 3)
         self.assertEqual(bare, packet)
 
+    def test_a_mask_may_be_a_part_of_the_packet(self):
+        packet, other = bytearray(range(0x43, 0x63)), bytearray(range(0x43, 0x63))
+        q.protect(other, 1, bytes(other[:5]))
+        q.protect(packet, 1, memoryview(packet)[:5])
+        self.assertEqual(packet, other)
+
     def test_a_cipher_of_the_callers_opens_and_seals(self):
         calls = []
 

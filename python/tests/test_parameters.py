@@ -276,6 +276,29 @@ class Sets(unittest.TestCase):
         with self.assertRaises(TypeError):
             hash(numbers)
 
+    def test_ranges_of_an_ack_are_a_set(self):
+        many = [range(20 * i, 20 * i + 3) for i in range(20)]
+        rows = {
+            "of which the first is the highest": [range(5, 9), range(1, 3)],
+            "in no order": [range(5, 9), range(20, 30), range(1, 3)],
+            "that overlap": [range(1, 5), range(3, 9)],
+            "that touch": [range(1, 5), range(5, 9)],
+            "one of them empty": [range(4, 4), range(7, 9)],
+            "many": many,
+            "many, the highest first": many[::-1],
+            "many twice": many + many,
+        }
+        for name, ranges in rows.items():
+            numbers = {number for one in ranges for number in one}
+            for given in (ranges, tuple(ranges), iter(ranges), [(one.start, one.stop) for one in ranges]):
+                with self.subTest(name, given=type(given).__name__):
+                    found = q.Ack(ranges=given).ranges
+                    self.assertEqual({number for one in found for number in one}, numbers)
+                    self.assertTrue(all(high.start > low.stop for high, low in zip(found, found[1:])), found)
+        for given in ([], [range(4, 4)], [range(3), range(0, 9, 2)], [range(-1, 3)], [range(1 << 65)]):
+            with self.subTest(given), self.assertRaises(ValueError):
+                q.Ack(ranges=given)
+
     def test_wrong_numbers_are_rejected(self):
         rows = [
             (ValueError, lambda: q.RangeSet().insert(-1)),

@@ -31,6 +31,9 @@ except ImportError:  # in some interpreters below another
 EXPECTED = (ValueError, TypeError, BufferError, MemoryError)
 PAYLOAD = bytes.fromhex("0001" "0600026162" "0a000163" "03090501010002010203" "0000" "180201026162" + "07" * 16)
 SHOWN = 200  # characters of a fault
+# A length for which CPython makes a tuple first. Without its lock its allocator refuses none that the address space
+# has, and the tuple's entries then take all memory of the machine.
+LIE = 1 << 40 if getattr(sys, "_is_gil_enabled", lambda: True)() else 1 << 20
 TIMES = 16  # that calls are done again
 SLACK = 60  # blocks, references or pages that may be left each time, as those of what is printed
 faults = []
@@ -95,7 +98,7 @@ def values():
         *NUMBERS, None, "text", "", 1.5, b"", b"\x01", bytes(16), bytes(20), PAYLOAD, data, memoryview(data)[3:],
         memoryview(data)[::2], array.array("H", [1, 2]), [], [1], [(1, 5)], [range(3)], [range(9, 0, -1)], ["ab"],
         (i for i in range(3)), [(0, b"")], {1: 2}, q.Ping, q.Ping(), q.Ack(ranges=[range(4)]), q.RangeSet([(1, 9)]),
-        q.TransportParameters(), Hostile(), Index(1), Index(1 << 70), Liar([1, 2], 2), Liar([range(3)], 1 << 40),
+        q.TransportParameters(), Hostile(), Index(1), Index(1 << 70), Liar([1, 2], 2), Liar([range(3)], LIE),
         object(),
     ]  # fmt: skip
 

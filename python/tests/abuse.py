@@ -31,12 +31,13 @@ except ImportError:  # in some interpreters below another
 EXPECTED = (ValueError, TypeError, BufferError, MemoryError)
 PAYLOAD = bytes.fromhex("0001" "0600026162" "0a000163" "03090501010002010203" "0000" "180201026162" + "07" * 16)
 SHOWN = 200  # characters of a fault
-# A length for which CPython makes a tuple first. Without its lock its allocator refuses none that the address space
-# has, and the tuple's entries then take all memory of the machine.
-LIE = 1 << 40 if getattr(sys, "_is_gil_enabled", lambda: True)() else 1 << 20
+# A length for which CPython makes a tuple first. Without its lock 3.13 has no MemoryError for one that takes all memory
+# of the machine, and doesn't give all of a long one back: `tuple` of such an object grows too.
+LIE = 1 << 40 if getattr(sys, "_is_gil_enabled", lambda: True)() else 40
 TIMES = 16  # that calls are done again
 SLACK = 60  # blocks, references or pages that may be left each time, as those of what is printed
 faults = []
+signatures = {}
 
 
 class Raised(Exception):
@@ -117,11 +118,14 @@ def callables():
                 yield f"{type(owner).__name__}.{name}", getattr(owner, name)
 
 
-def signature_of(call):
-    try:
-        return inspect.signature(call)
-    except ValueError:
-        return None
+def signature_of(name, call):
+    """A call's signature, made once: CPython 3.13 without its lock never frees what it parses for that."""
+    if name not in signatures:
+        try:
+            signatures[name] = inspect.signature(call)
+        except ValueError:
+            signatures[name] = None
+    return signatures[name]
 
 
 def chosen(chance, signature):
@@ -149,7 +153,7 @@ def exhaust(result):
 
 def try_arguments(chance, count):
     """Any arguments are taken or rejected, and those that don't fit the signature aren't taken."""
-    tried = [(name, call, signature_of(call)) for name, call in callables()]
+    tried = [(name, call, signature_of(name, call)) for name, call in callables()]
     for _ in range(count):
         name, call, signature = chance.choice(tried)
         args, named = chosen(chance, signature)

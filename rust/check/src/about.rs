@@ -1,6 +1,7 @@
 //! What rules may see.
 
-use crate::history::{Half, History};
+use crate::half::Half;
+use crate::history::History;
 use crate::rule::Need;
 use crate::vantage::Vantage;
 use quic_wire::fields::Fault;

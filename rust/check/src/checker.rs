@@ -105,6 +105,8 @@ impl Facts {
         let is_closed = connection.end(sender).closed().or(connection.end(!sender).closed()).is_some();
         finding.rule.needs.iter().copied().find(|need| match need {
             Need::PeerPackets if matches!(claim, Claim::Bytes(_)) && history.lacks_handshake() => true,
+            // One of the client that isn't in the capture may have confirmed it.
+            Need::PeerPackets if matches!(claim, Claim::Unconfirmed) && !history.has_handshake(!sender) => true,
             Need::PeerPackets => !history.is_whole(!sender, spaces),
             Need::OwnPackets if matches!(claim, Claim::Retry) && !history.half(sender).has_initial() => true,
             Need::OwnPackets => !history.is_whole(sender, spaces),

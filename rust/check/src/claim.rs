@@ -53,6 +53,10 @@ pub(crate) enum Claim {
     BytesTo(SocketAddr, u64),
     /// It sent a long header to an id that its peer didn't choose and didn't issue.
     Destination(ConnectionId),
+    /// It did what has to wait until its handshake is confirmed.
+    Unconfirmed,
+    /// It updated its keys so often, its peer less often, and no number from `since` on was acknowledged.
+    Update { updates: u64, since: u64 },
 }
 
 impl Claim {
@@ -62,7 +66,7 @@ impl Claim {
             Claim::Unsent { space, .. } | Claim::Number { space, .. } => std::slice::from_ref(space),
             // A datagram at the end of a space leaves no gap; those of the other spaces show whether any are missing.
             Claim::Bytes(_) | Claim::BytesTo(..) => ALL,
-            Claim::Destination(_) => ALL,
+            Claim::Destination(_) | Claim::Unconfirmed => ALL,
             // Keys of Initial packets follow from the id of a Retry.
             Claim::Retry => &[SpaceId::Initial],
             _ => DATA,
@@ -115,8 +119,25 @@ impl Claim {
                 history.peer(address).is_some_and(|peer| !peer.is_valid && bytes > peer.received.saturating_mul(3))
             }
             Claim::Destination(id) => !peer.sources.contains(&id) && !is_issued(connection, !sender, &id),
+            Claim::Unconfirmed => is_unconfirmed(connection, history, sender),
+            Claim::Update { updates, since } => {
+                let acknowledged = connection.end(sender).acknowledged(SpaceId::Data);
+                peer.updates() < updates && acknowledged.is_none_or(|largest| largest < since)
+            }
         }
     }
+}
+
+/// Whether nothing shows a side that the handshake is confirmed (RFC 9001, section 4.1.2): to a server the client's last
+/// message, which is in a Handshake packet; to a client HANDSHAKE_DONE, or an ACK in a 1-RTT packet. Nor has its peer
+/// updated the keys.
+pub(crate) fn is_unconfirmed(connection: &Connection, history: &History, side: Side) -> bool {
+    let peer = history.half(!side);
+    let is_shown = match side {
+        Side::Client => peer.has_done() || connection.end(side).acknowledged(SpaceId::Data).is_some(),
+        Side::Server => peer.has_handshake(),
+    };
+    !is_shown && peer.updates() == 0
 }
 
 /// How many bytes a side may send on all streams (RFC 9000, section 4.1).
@@ -140,12 +161,6 @@ pub(crate) fn count_limit(limits: &TransportParameters, history: &History, sende
     let is_uni = id.dir() == Dir::Uni;
     let first = if is_uni { limits.initial_max_streams_uni } else { limits.initial_max_streams_bidi };
     first.into_inner().max(history.half(sender).max_streams[usize::from(is_uni)])
-}
-
-/// How far a number is from the largest of its sender that is acknowledged (RFC 9000, section 17.1).
-pub(crate) fn distance(connection: &Connection, sender: Side, space: SpaceId, number: u64) -> u64 {
-    let acknowledged = connection.end(sender).acknowledged(space);
-    acknowledged.map_or(number.saturating_add(1), |acknowledged| number.saturating_sub(acknowledged))
 }
 
 /// How many ids of a side are active, with a further one (RFC 9000, section 5.1.1).

@@ -1,12 +1,11 @@
 //! Frames by themselves, and those that name no stream and no id.
 
-use super::packets::is_to_retry;
 use crate::about::{About, Faulty, Held, name_of};
 use crate::claim::Claim;
 use crate::rule::{Broken, Check, Checked, History, Need, Rule, Section};
 use quic_wire::Side;
 use quic_wire::datagram::HeaderKind;
-use quic_wire::frame::Frame;
+use quic_wire::frame::{ApplicationClose, Close, ConnectionClose, Frame};
 use quic_wire::ids::{MIN_INITIAL_SIZE, SpaceId};
 use quic_wire::permitted::Forbidden;
 use quic_wire_capture::opened::Opened;
@@ -15,6 +14,9 @@ use quic_wire_capture::opened::Opened;
 const UNKNOWN: &str = "invalid frame ID";
 const LONG_TYPE: &str = "frame type not in shortest form";
 const MALFORMED: &str = "malformed";
+
+// The error code of a CONNECTION_CLOSE that stands for one of the application (RFC 9000, section 20.1).
+const APPLICATION_ERROR: u64 = 0x0c;
 
 pub(super) static RULES: &[Rule] = &[
     Rule::must("empty-payload", "12.4", "A packet has at least a frame.", Check::Empty(empty_payload)),
@@ -78,20 +80,13 @@ pub(super) static RULES: &[Rule] = &[
     Rule::must("challenge-data", "8.2.1", "Each PATH_CHALLENGE has data of its own.", Check::Frame(challenge_data))
         .with(History::Before, &[]),
     Rule::must(
-        "update-answer",
-        "6.2",
-        "A packet that acknowledges one with new keys has new keys.",
-        Check::Frame(update_answer),
-    )
-    .of(9001)
-    .with(History::Before, &[Need::Begin]),
-    Rule::must(
-        "retry-hello",
-        "17.2.5.3",
-        "After a Retry a client sends the same handshake message as before.",
-        Check::Frame(retry_hello),
-    )
-    .with(History::Before, &[Need::Begin]),
+        "close-reason",
+        "10.2.3",
+        "A CONNECTION_CLOSE with APPLICATION_ERROR in an Initial or Handshake packet has an empty reason phrase.",
+        Check::Frame(close_reason),
+    ),
+    Rule::must("reason-text", "19.19", "The reason phrase of a CONNECTION_CLOSE is UTF-8.", Check::Frame(reason_text))
+        .should(),
     Rule::must(
         "path-size",
         "8.2.1",
@@ -261,36 +256,27 @@ fn challenge_data(about: &About<'_>, _: &Opened<'_>, held: &Held<'_>) -> Checked
         .found()
 }
 
-fn update_answer(about: &About<'_>, opened: &Opened<'_>, held: &Held<'_>) -> Checked {
-    let Frame::Ack(ack) = held.frame else { return Ok(None) };
-    let newer = about.peer_half().phase.filter(|phase| phase.updates > opened.updates());
-    let Some(phase) = newer.filter(|_| opened.kind() == HeaderKind::Short) else { return Ok(None) };
-    if !ack.iter().any(|range| range.contains(&phase.first)) {
+fn close_reason(_: &About<'_>, opened: &Opened<'_>, held: &Held<'_>) -> Checked {
+    let Frame::Close(Close::Connection(close)) = held.frame else { return Ok(None) };
+    let is_converted = opened.space() != SpaceId::Data && u64::from(close.error_code) == APPLICATION_ERROR;
+    if !is_converted || close.reason.is_empty() {
         return Ok(None);
     }
-    Broken::new(format!("old keys, and an ACK of number {}, which has new ones", phase.first), "new keys")
+    Broken::new(format!("APPLICATION_ERROR with a reason phrase of {} bytes", close.reason.len()), "an empty one")
         .in_payload(held.range.start)
         .found()
 }
 
-fn retry_hello(about: &About<'_>, opened: &Opened<'_>, held: &Held<'_>) -> Checked {
-    let Frame::Crypto(crypto) = held.frame else { return Ok(None) };
-    if opened.kind() != HeaderKind::Initial || !is_to_retry(about, opened) {
+fn reason_text(_: &About<'_>, _: &Opened<'_>, held: &Held<'_>) -> Checked {
+    let Frame::Close(
+        Close::Connection(ConnectionClose { reason, .. }) | Close::Application(ApplicationClose { reason, .. }),
+    ) = held.frame
+    else {
         return Ok(None);
-    }
-    let same = |(offset, bytes): &(u64, Vec<u8>)| {
-        let begin = crypto.offset.max(*offset);
-        let [one, two] = [(crypto.offset, crypto.bytes), (*offset, &bytes[..])]
-            .map(|(offset, bytes)| bytes.get((begin - offset) as usize..).unwrap_or_default());
-        let pairs = one.iter().zip(two);
-        pairs.into_iter().all(|(one, two)| one == two)
     };
-    if about.history.hello.iter().all(same) {
-        return Ok(None);
-    }
-    Broken::new("CRYPTO data that differ from those before the Retry", "the same data")
-        .in_payload(held.range.start)
-        .found()
+    let Err(error) = std::str::from_utf8(reason) else { return Ok(None) };
+    let seen = format!("a reason phrase that isn't UTF-8 from byte {} of {} on", error.valid_up_to(), reason.len());
+    Broken::new(seen, "UTF-8").in_payload(held.range.end - reason.len() + error.valid_up_to()).found()
 }
 
 fn path_size(about: &About<'_>, opened: &Opened<'_>, held: &Held<'_>) -> Checked {

@@ -53,6 +53,13 @@ pub(super) static RULES: &[Rule] = &[
     )
     .of(9368)
     .with(History::Before, &[Need::Begin]),
+    Rule::must(
+        "chosen-available",
+        "3",
+        "A client's chosen version is one of its available versions.",
+        Check::List(chosen_available),
+    )
+    .of(9368),
 ];
 
 fn refused(_: &About<'_>, list: &[u8], refusal: &Refusal) -> Checked {
@@ -94,6 +101,15 @@ fn chosen_version(about: &About<'_>, opened: &Opened<'_>, list: &[u8]) -> Checke
         return Ok(None);
     }
     Broken::new(format!("the chosen version {chosen:#x}"), format!("{version:#x}, the packet's")).found()
+}
+
+fn chosen_available(about: &About<'_>, _: &Opened<'_>, list: &[u8]) -> Checked {
+    let Some((chosen, available)) = versions_of(list).and_then(versions::read) else { return Ok(None) };
+    let mut available = std::iter::successors(versions::split(available), |(_, others)| versions::split(others));
+    if about.sender == Side::Server || available.any(|(version, _)| version == chosen) {
+        return Ok(None);
+    }
+    Broken::new(format!("the chosen version {chosen:#x}, which isn't available"), "it among the available ones").found()
 }
 
 fn compared(name: &str, given: Option<&ConnectionId>, used: Option<&ConnectionId>) -> Option<Broken> {

@@ -3,6 +3,7 @@
 use super::frames::section_of;
 use crate::about::{About, Held, name_of};
 use crate::claim::{Claim, count_limit, data_limit, stream_limit};
+use crate::half::Reset;
 use crate::history::{data_of, stream_of, type_of};
 use crate::rule::{Broken, Check, Checked, History, Need, Rule};
 use quic_wire::frame::Frame;
@@ -45,6 +46,13 @@ pub(super) static RULES: &[Rule] = &[
         "3.3",
         "After RESET_STREAM its sender sends no STREAM and no STREAM_DATA_BLOCKED of the stream.",
         Check::Frame(after_reset),
+    )
+    .with(History::Before, &[Need::NoEarlyData]),
+    Rule::must(
+        "reset-changed",
+        "13.3",
+        "A RESET_STREAM that is sent again has the same error code.",
+        Check::Frame(reset_changed),
     )
     .with(History::Before, &[Need::NoEarlyData]),
     Rule::must(
@@ -117,9 +125,20 @@ fn after_reset(about: &About<'_>, opened: &Opened<'_>, held: &Held<'_>) -> Check
     let (Frame::Stream(_) | Frame::StreamDataBlocked { .. }) = held.frame else { return Ok(None) };
     let Some(id) = stream_of(held.frame).filter(|_| held.permitted.is_ok()) else { return Ok(None) };
     let reset = about.own_half().streams.get(&u64::from(id)).and_then(|stream| stream.reset);
-    let Some(reset) = reset.filter(|reset| *reset < opened.number()) else { return Ok(None) };
-    let seen = format!("{} for stream {}, after RESET_STREAM in packet {reset}", name_of(held.ty), u64::from(id));
+    let Some(Reset { by, .. }) = reset.filter(|reset| reset.by < opened.number()) else { return Ok(None) };
+    let seen = format!("{} for stream {}, after RESET_STREAM in packet {by}", name_of(held.ty), u64::from(id));
     Broken::new(seen, "none").in_payload(held.range.start).found()
+}
+
+fn reset_changed(about: &About<'_>, _: &Opened<'_>, held: &Held<'_>) -> Checked {
+    let Frame::ResetStream(again) = held.frame else { return Ok(None) };
+    let (id, code) = (u64::from(again.id), again.error_code.into_inner());
+    let first = about.own_half().streams.get(&id).and_then(|stream| stream.reset);
+    let Some(Reset { by, code: before }) = first.filter(|first| held.permitted.is_ok() && first.code != code) else {
+        return Ok(None);
+    };
+    let seen = format!("RESET_STREAM for stream {id} with the error code {code:#x}");
+    Broken::new(seen, format!("{before:#x}, as in packet {by}")).in_payload(held.range.start).found()
 }
 
 fn stream_count(about: &About<'_>, _: &Opened<'_>, held: &Held<'_>) -> Checked {

@@ -13,8 +13,7 @@ use std::net::SocketAddr;
 /// two queues.
 pub(crate) const GRACE: u64 = 10_000_000;
 
-// How many claims of a connection wait.
-const MOST_WAITING: usize = 256;
+// How many claims of a connection that something wasn't sent wait.
 const MOST_UNSENT: usize = 64;
 
 const DATA: &[SpaceId] = &[SpaceId::Data];
@@ -213,20 +212,23 @@ pub(crate) struct Waiting {
 }
 
 impl Waiting {
-    /// Adds a claim. Returns one for which there is no room.
-    pub(crate) fn add(&mut self, finding: Finding, claim: Claim) -> Option<Pending> {
+    /// Adds a claim. Returns one for which there is no room, if there is for so many.
+    pub(crate) fn add(&mut self, finding: Finding, claim: Claim, most: usize) -> Option<Pending> {
         let due = claim.is_timed().then(|| finding.time.saturating_add(GRACE));
         let is_unsent = matches!(claim, Claim::Unsent { .. });
         let pending = Pending { finding, claim, due, is_proven: !is_unsent };
         if is_unsent {
             self.unsent.push_back(pending);
             // Those that were shown stay.
-            let oldest = self.unsent.iter().position(|one| !one.is_proven).filter(|_| self.unsent.len() > MOST_UNSENT);
+            let is_full = self.unsent.len() > most.min(MOST_UNSENT);
+            let oldest = self.unsent.iter().position(|one| !one.is_proven).filter(|_| is_full);
             return oldest.and_then(|oldest| self.unsent.remove(oldest));
         }
-        if self.claims.len() >= MOST_WAITING {
+        if self.claims.len() >= most {
             return Some(pending);
         }
+        // Most connections have few.
+        self.claims.reserve_exact(1);
         self.claims.push(pending);
         None
     }

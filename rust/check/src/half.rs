@@ -7,6 +7,14 @@ use quic_wire::{ConnectionId, StreamId};
 use quic_wire_capture::capture::Datagram;
 use std::collections::{BTreeMap, HashMap, HashSet};
 use std::net::SocketAddr;
+use std::ops::Range;
+
+// How many bytes a run of numbers and an entry of a map have, at most, while a set or map has room for twice as many.
+const RUN: usize = 2 * size_of::<Range<u64>>();
+const ENTRY: usize = 2 * size_of::<(u64, Stream)>();
+
+// How many runs a set has at most.
+const MOST_RUNS: usize = 1 << 16;
 
 /// What a side sent on a stream.
 #[derive(Clone, Copy, Debug, Default)]
@@ -196,10 +204,12 @@ impl Half {
         self.total = self.total.saturating_add(more);
     }
 
-    pub(crate) fn size(&self) -> usize {
-        let runs = self.seen.iter().chain(&self.acknowledged).map(RangeSet::len);
-        let sets = [&self.issued, &self.dones].map(RangeSet::len);
-        let maps = [self.streams.len(), self.retired.len(), self.challenges.len(), self.responses.len()];
-        runs.chain(sets).chain(maps).max().unwrap_or(0)
+    /// Whether it has more than so many bytes to remember, or a set of numbers has too many runs: one more run is put
+    /// between the others, which moves them.
+    pub(crate) fn is_full(&self, most: usize) -> bool {
+        let sets = self.seen.iter().chain(&self.acknowledged).chain([&self.issued, &self.dones]).map(RangeSet::len);
+        let (runs, longest) = sets.fold((0, 0), |(sum, longest), runs| (sum + runs, longest.max(runs)));
+        let entries = self.streams.len() + self.retired.len() + self.challenges.len() + self.responses.len();
+        runs * RUN + entries * ENTRY > most || longest > MOST_RUNS
     }
 }

@@ -6,6 +6,7 @@ use crate::vantage::Vantage;
 use quic_wire::datagram::{HeaderKind, PacketRef};
 use quic_wire::frame::{Ack, Crypto, Frame};
 use quic_wire::ids::SpaceId;
+use quic_wire::range_set::RangeSet;
 use quic_wire::transport_parameters::{entries, known};
 use quic_wire::{ConnectionId, Dir, Side, StreamId};
 use quic_wire_capture::capture::Datagram;
@@ -23,6 +24,9 @@ const MOST_SOURCES: usize = 8;
 
 // How many addresses of a client are remembered.
 const MOST_PEERS: usize = 16;
+
+// Up to how many runs are inserted one by one.
+const FEW_RUNS: usize = 64;
 
 // How many bytes of CRYPTO data are remembered from before a Retry.
 const MOST_HELLO: usize = 1 << 12;
@@ -91,6 +95,30 @@ fn validate(peers: &mut [Peer], address: SocketAddr) {
     peers.iter_mut().filter(|peer| peer.address == address).for_each(|peer| peer.is_valid = true);
 }
 
+// Inserts the numbers of an ACK. A run between others moves those behind it, so many of them are merged with the others.
+fn insert_all(set: &mut RangeSet, ack: &Ack<'_>) {
+    let ranges = || ack.iter().map(|range| *range.start()..range.end().saturating_add(1));
+    if set.len() <= FEW_RUNS || ranges().nth(FEW_RUNS).is_none() {
+        for range in ranges() {
+            set.insert(range);
+        }
+        return;
+    }
+    let (mut merged, mut old) = (RangeSet::new(), set.iter().peekable());
+    let mut new: Vec<_> = ranges().collect();
+    // An ACK has the greatest numbers first.
+    while let Some(range) = new.pop() {
+        while let Some(before) = old.next_if(|before| before.start <= range.start) {
+            merged.insert(before);
+        }
+        merged.insert(range);
+    }
+    for run in old {
+        merged.insert(run);
+    }
+    *set = merged;
+}
+
 /// The two low bits of a stream's id.
 pub(crate) fn type_of(id: StreamId) -> usize {
     (u64::from(id) & 3) as usize
@@ -157,6 +185,7 @@ impl History {
     fn take_bytes(&mut self, datagram: &Datagram<'_>, sender: Side, bytes: u64) {
         let address = if sender == Side::Client { datagram.from } else { datagram.to };
         if self.peer(address).is_none() && self.peers.len() < MOST_PEERS {
+            self.peers.reserve_exact(1);
             self.peers.push(Peer { address, received: 0, sent: 0, is_valid: !self.is_confirmed });
         }
         let Some(peer) = self.peers.iter_mut().find(|peer| peer.address == address) else { return };
@@ -184,13 +213,13 @@ impl History {
         self.halves[sender as usize].unopened[space as usize] += 1;
     }
 
-    /// Takes the header of an opened packet whose number is new. Of each kind only so many things are remembered.
+    /// Takes the header of an opened packet whose number is new. Only about so many bytes are remembered.
     pub(crate) fn take_packet(&mut self, datagram: &Datagram<'_>, opened: &Opened<'_>, most: usize) {
         use HeaderKind::{Handshake, Initial, ZeroRtt};
         let (sender, packet) = (opened.sender(), opened.packet());
         let server_id = self.halves[Side::Server as usize].sources.first().copied();
         let half = &mut self.halves[sender as usize];
-        self.is_full |= half.size() >= most;
+        self.is_full |= half.is_full(most / 2);
         if packet.header().is_short() {
             half.least_short = Some(half.least_short.map_or(opened.number(), |least| least.min(opened.number())));
             half.add_phase(opened.updates(), opened.number());
@@ -203,6 +232,8 @@ impl History {
         }
         let source = ConnectionId::try_from(packet.src_cid()).unwrap_or_default();
         if !half.sources.contains(&source) && half.sources.len() < MOST_SOURCES {
+            // Most have one.
+            half.sources.reserve_exact(1);
             half.sources.push(source);
         }
         if opened.kind() == Handshake {
@@ -333,10 +364,7 @@ impl History {
         let (sender, space) = (opened.sender(), opened.space());
         self.take_knowledge(datagram, opened, ack);
         if !self.is_full {
-            let acknowledged = &mut self.halves[!sender as usize].acknowledged[space as usize];
-            for range in ack {
-                acknowledged.insert(*range.start()..range.end().saturating_add(1));
-            }
+            insert_all(&mut self.halves[!sender as usize].acknowledged[space as usize], ack);
         }
         self.is_confirmed |= sender == Side::Server && space == SpaceId::Handshake;
         // A packet that was never sent shows nothing.

@@ -2,7 +2,7 @@
 
 use crate::about::{About, Faulty, Held, name_of};
 use crate::claim::Claim;
-use crate::rule::{Broken, Check, Checked, History, Need, Rule, Section};
+use crate::rule::{Broken, Check, Checked, History, Need, Rule, Section, Types};
 use quic_wire::Side;
 use quic_wire::datagram::HeaderKind;
 use quic_wire::frame::{ApplicationClose, Close, ConnectionClose, Frame};
@@ -38,21 +38,21 @@ pub(super) static RULES: &[Rule] = &[
         "frame-in-packet",
         "12.4",
         "A packet carries only frames that table 3 permits for its type.",
-        Check::Frame(in_packet),
+        Check::Forbidden(in_packet),
     ),
-    Rule::must("frame-sender", "19", "Only servers send NEW_TOKEN and HANDSHAKE_DONE.", Check::Frame(frame_sender)),
+    Rule::must("frame-sender", "19", "Only servers send NEW_TOKEN and HANDSHAKE_DONE.", Check::Forbidden(frame_sender)),
     Rule::must(
         "ack-unsent",
         "13.1",
         "An ACK acknowledges only packet numbers that were sent.",
-        Check::Frame(ack_unsent),
+        Check::Frame(Types::ACK, ack_unsent),
     )
     .with(History::Whole, &[Need::Begin, Need::Proof]),
     Rule::must(
         "datagram-size",
         "3",
         "A DATAGRAM needs the receiver's max_datagram_frame_size, and has at most so many bytes.",
-        Check::Frame(datagram_size),
+        Check::Frame(Types::DATAGRAM, datagram_size),
     )
     .of(9221)
     .with(History::Before, &[Need::PeerParameters, Need::OneRtt]),
@@ -60,38 +60,48 @@ pub(super) static RULES: &[Rule] = &[
         "path-response",
         "19.18",
         "A PATH_RESPONSE has the data of a PATH_CHALLENGE of the peer.",
-        Check::Frame(path_response),
+        Check::Frame(Types::PATH_RESPONSE, path_response),
     )
     .with(History::Whole, &[Need::Begin, Need::PeerPackets, Need::OwnPackets]),
     Rule::must(
         "response-twice",
         "8.2.2",
         "A PATH_CHALLENGE is answered by at most one PATH_RESPONSE.",
-        Check::Frame(response_twice),
+        Check::Frame(Types::PATH_RESPONSE, response_twice),
     )
     .with(History::Whole, &[Need::Begin, Need::PeerPackets, Need::OwnPackets]),
     Rule::must(
         "response-path",
         "8.2.2",
         "A server sends PATH_RESPONSE to the address from which the PATH_CHALLENGE came.",
-        Check::Frame(response_path),
+        Check::Frame(Types::PATH_RESPONSE, response_path),
     )
     .with(History::Before, &[]),
-    Rule::must("challenge-data", "8.2.1", "Each PATH_CHALLENGE has data of its own.", Check::Frame(challenge_data))
-        .with(History::Before, &[]),
+    Rule::must(
+        "challenge-data",
+        "8.2.1",
+        "Each PATH_CHALLENGE has data of its own.",
+        Check::Frame(Types::PATH_CHALLENGE, challenge_data),
+    )
+    .with(History::Before, &[]),
     Rule::must(
         "close-reason",
         "10.2.3",
         "A CONNECTION_CLOSE with APPLICATION_ERROR in an Initial or Handshake packet has an empty reason phrase.",
-        Check::Frame(close_reason),
+        Check::Frame(Types::CLOSE, close_reason),
     ),
-    Rule::must("reason-text", "19.19", "The reason phrase of a CONNECTION_CLOSE is UTF-8.", Check::Frame(reason_text))
-        .should(),
+    Rule::must(
+        "reason-text",
+        "19.19",
+        "The reason phrase of a CONNECTION_CLOSE is UTF-8.",
+        Check::Frame(Types::CLOSE, reason_text),
+    )
+    .should(),
     Rule::must(
         "path-size",
         "8.2.1",
         "A datagram with a PATH_CHALLENGE or PATH_RESPONSE has at least 1200 bytes, if the address is validated.",
-        Check::Frame(path_size),
+        Check::Frame(Types::PATHS, path_size),
     )
     .with(History::Before, &[Need::ValidAddress]),
 ];
@@ -165,8 +175,8 @@ fn fields(_: &About<'_>, _: &Opened<'_>, faulty: &Faulty<'_>) -> Checked {
     Broken::new(seen, "a whole frame, with fields in range").by_section(section).in_payload(at).found()
 }
 
-fn in_packet(_: &About<'_>, opened: &Opened<'_>, held: &Held<'_>) -> Checked {
-    if held.permitted != Err(Forbidden::Packet) {
+fn in_packet(opened: &Opened<'_>, held: &Held<'_>, why: Forbidden) -> Checked {
+    if why != Forbidden::Packet {
         return Ok(None);
     }
     let (section, name) = match opened.kind() {
@@ -179,8 +189,8 @@ fn in_packet(_: &About<'_>, opened: &Opened<'_>, held: &Held<'_>) -> Checked {
     Broken::new(seen, "a frame that table 3 permits there").by(section).in_payload(held.range.start).found()
 }
 
-fn frame_sender(_: &About<'_>, _: &Opened<'_>, held: &Held<'_>) -> Checked {
-    if held.permitted != Err(Forbidden::Sender) {
+fn frame_sender(_: &Opened<'_>, held: &Held<'_>, why: Forbidden) -> Checked {
+    if why != Forbidden::Sender {
         return Ok(None);
     }
     let seen = format!("{} from a client", name_of(held.ty));
@@ -192,10 +202,11 @@ fn ack_unsent(about: &About<'_>, opened: &Opened<'_>, held: &Held<'_>) -> Checke
     let Frame::Ack(ack) = held.frame else { return Ok(None) };
     let (space, number) = (opened.space(), ack.largest());
     let largest = about.peer().largest(space);
-    if held.permitted.is_err() || largest.is_some_and(|largest| number <= largest) {
+    if largest.is_some_and(|largest| number <= largest) {
         return Ok(None);
     }
-    let most = largest.map_or("none: nothing was sent".into(), |one| format!("at most {one}, which was sent"));
+    let most =
+        largest.map_or("none: nothing was sent".into(), |one| format!("at most {one}, the largest that was sent"));
     let claim = Claim::Unsent { space, number, by: opened.number() };
     Broken::new(format!("an ACK of packet number {number}"), most).in_payload(held.range.start).if_still(claim).found()
 }
@@ -217,7 +228,7 @@ fn datagram_size(about: &About<'_>, opened: &Opened<'_>, held: &Held<'_>) -> Che
 
 fn path_response(about: &About<'_>, _: &Opened<'_>, held: &Held<'_>) -> Checked {
     let Frame::PathResponse(data) = held.frame else { return Ok(None) };
-    if held.permitted.is_err() || about.peer_half().challenges.contains_key(data) {
+    if about.peer_half().challenges.contains_key(data) {
         return Ok(None);
     }
     let seen = format!("a PATH_RESPONSE with the data {data:016x}");
@@ -229,7 +240,7 @@ fn path_response(about: &About<'_>, _: &Opened<'_>, held: &Held<'_>) -> Checked 
 
 fn response_twice(about: &About<'_>, _: &Opened<'_>, held: &Held<'_>) -> Checked {
     let Frame::PathResponse(data) = held.frame else { return Ok(None) };
-    if held.permitted.is_err() || !about.own_half().responses.contains(data) {
+    if !about.own_half().responses.contains(data) {
         return Ok(None);
     }
     let seen = format!("a second PATH_RESPONSE with the data {data:016x}");
@@ -248,7 +259,7 @@ fn response_path(about: &About<'_>, _: &Opened<'_>, held: &Held<'_>) -> Checked 
 
 fn challenge_data(about: &About<'_>, _: &Opened<'_>, held: &Held<'_>) -> Checked {
     let Frame::PathChallenge(data) = held.frame else { return Ok(None) };
-    if held.permitted.is_err() || !about.own_half().challenges.contains_key(data) {
+    if !about.own_half().challenges.contains_key(data) {
         return Ok(None);
     }
     Broken::new(format!("a second PATH_CHALLENGE with the data {data:016x}"), "other data")
@@ -279,14 +290,14 @@ fn reason_text(_: &About<'_>, _: &Opened<'_>, held: &Held<'_>) -> Checked {
     Broken::new(seen, "UTF-8").in_payload(held.range.end - reason.len() + error.valid_up_to()).found()
 }
 
-fn path_size(about: &About<'_>, opened: &Opened<'_>, held: &Held<'_>) -> Checked {
+fn path_size(about: &About<'_>, _: &Opened<'_>, held: &Held<'_>) -> Checked {
     let (section, name) = match held.frame {
         Frame::PathChallenge(_) => ("8.2.1", "PATH_CHALLENGE"),
         Frame::PathResponse(_) => ("8.2.2", "PATH_RESPONSE"),
         _ => return Ok(None),
     };
     let size = about.size();
-    if opened.space() != SpaceId::Data || size >= usize::from(MIN_INITIAL_SIZE) {
+    if size >= usize::from(MIN_INITIAL_SIZE) {
         return Ok(None);
     }
     // A server may send so little to an address that isn't validated. A client needn't validate its server's.

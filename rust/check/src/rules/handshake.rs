@@ -3,7 +3,7 @@
 use super::packets::{begin, is_to_retry};
 use crate::about::{About, Held};
 use crate::claim::{Claim, is_unconfirmed};
-use crate::rule::{Broken, Check, Checked, History, Need, Rule, Section};
+use crate::rule::{Broken, Check, Checked, History, Need, Rule, Section, Types};
 use quic_wire::Side;
 use quic_wire::datagram::HeaderKind;
 use quic_wire::frame::{Crypto, Frame};
@@ -23,21 +23,21 @@ pub(super) static RULES: &[Rule] = &[
         "retry-hello",
         "17.2.5.3",
         "After a Retry a client sends the same handshake message as before.",
-        Check::Frame(retry_hello),
+        Check::Frame(Types::CRYPTO, retry_hello),
     )
     .with(History::Before, &[Need::Begin]),
     Rule::must(
         "session-id",
         "8.4",
         "A ClientHello has an empty legacy_session_id: there is no middlebox compatibility mode.",
-        Check::Frame(session_id),
+        Check::Frame(Types::CRYPTO, session_id),
     )
     .of(9001),
     Rule::must(
         "tls-message",
         "6",
         "No KeyUpdate, no EndOfEarlyData and, after the handshake, no CertificateRequest of TLS is sent.",
-        Check::Frame(tls_message),
+        Check::Frame(Types::CRYPTO, tls_message),
     )
     .of(9001)
     .with(History::Before, &[Need::Begin]),
@@ -45,7 +45,7 @@ pub(super) static RULES: &[Rule] = &[
         "crypto-version",
         "4.1",
         "A server sends all CRYPTO frames in packets of the version that is negotiated.",
-        Check::Frame(crypto_version),
+        Check::Frame(Types::CRYPTO, crypto_version),
     )
     .of(9369)
     .with(History::Before, &[Need::Begin]),
@@ -61,7 +61,7 @@ pub(super) static RULES: &[Rule] = &[
         "early-done",
         "19.20",
         "A server sends HANDSHAKE_DONE only once the client has sent a Handshake packet.",
-        Check::Frame(early_done),
+        Check::Frame(Types::HANDSHAKE_DONE, early_done),
     )
     .with(History::Whole, &[Need::Begin, Need::PeerPackets, Need::OwnPackets, Need::Order, Need::End]),
 ];
@@ -124,8 +124,7 @@ fn tls_message(about: &About<'_>, opened: &Opened<'_>, held: &Held<'_>) -> Check
 
 // The last message of the client's handshake is in a Handshake packet.
 fn early_done(about: &About<'_>, _: &Opened<'_>, held: &Held<'_>) -> Checked {
-    let is_done = held.permitted.is_ok() && matches!(held.frame, Frame::HandshakeDone);
-    if !is_done || !is_unconfirmed(about.connection, about.history, about.sender) {
+    if !is_unconfirmed(about.connection, about.history, about.sender) {
         return Ok(None);
     }
     Broken::new("HANDSHAKE_DONE before any Handshake packet of the client", "none before the handshake is complete")
@@ -136,7 +135,7 @@ fn early_done(about: &About<'_>, _: &Opened<'_>, held: &Held<'_>) -> Checked {
 
 // A server that needs a Version Negotiation sends no CRYPTO in the version that it doesn't speak.
 fn crypto_version(about: &About<'_>, opened: &Opened<'_>, held: &Held<'_>) -> Checked {
-    let before = about.own_half().crypto_version.filter(|_| matches!(held.frame, Frame::Crypto(_)));
+    let before = about.own_half().crypto_version;
     let is_bound = about.sender == Side::Server && opened.kind() != HeaderKind::Short;
     let version = opened.packet().header().version();
     let Some(before) = before.filter(|before| is_bound && *before != version) else { return Ok(None) };

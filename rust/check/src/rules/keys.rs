@@ -4,7 +4,7 @@ use super::packets::begin;
 use crate::about::{About, Held};
 use crate::claim::{Claim, GRACE, is_unconfirmed};
 use crate::half::{Moment, Phase};
-use crate::rule::{Broken, Check, Checked, History, Need, Rule, Section};
+use crate::rule::{Broken, Check, Checked, History, Need, Rule, Section, Types};
 use quic_wire::Side;
 use quic_wire::datagram::HeaderKind;
 use quic_wire::frame::Frame;
@@ -44,7 +44,7 @@ pub(super) static RULES: &[Rule] = &[
         "update-answer",
         "6.2",
         "A packet that acknowledges one with new keys has new keys.",
-        Check::Frame(update_answer),
+        Check::Frame(Types::ACK, update_answer),
     )
     .of(9001)
     .with(History::Before, &[Need::Begin]),
@@ -98,7 +98,7 @@ fn old_keys(about: &About<'_>, opened: &Opened<'_>) -> Checked {
     let is_older = |phase: &Phase| opened.updates() < phase.updates && opened.number() > phase.first;
     let phase = about.own_half().phase.filter(|_| opened.kind() == HeaderKind::Short);
     let Some(phase) = phase.filter(is_older) else { return Ok(None) };
-    let seen = format!("number {} with keys of before the update at number {}", opened.number(), phase.first);
+    let seen = format!("packet {} with older keys than packet {}", opened.number(), phase.first);
     Broken::new(seen, "the new keys").at(begin(opened)).found()
 }
 
@@ -140,7 +140,7 @@ fn update_answer(about: &About<'_>, opened: &Opened<'_>, held: &Held<'_>) -> Che
     if !ack.iter().any(|range| range.contains(&phase.first)) {
         return Ok(None);
     }
-    Broken::new(format!("old keys, and an ACK of number {}, which has new ones", phase.first), "new keys")
+    Broken::new(format!("older keys than those of packet {}, which it acknowledges", phase.first), "the new keys")
         .in_payload(held.range.start)
         .found()
 }

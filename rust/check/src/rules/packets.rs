@@ -159,24 +159,27 @@ fn first_id(about: &About<'_>, opened: &Opened<'_>) -> Checked {
         return Ok(None);
     }
     let at = begin(opened) + packet.header().dst_cid_pos().start;
-    Broken::new(format!("an id of {len} bytes"), "8 bytes or more").at(at).found()
+    Broken::new(format!("a Destination Connection ID of {len} bytes"), "8 bytes or more").at(at).found()
 }
 
 fn destination_id(about: &About<'_>, opened: &Opened<'_>) -> Checked {
     let (packet, connection) = (opened.packet(), about.connection);
+    let sources = &about.peer_half().sources;
+    if packet.header().is_short() || sources.is_empty() {
+        return Ok(None);
+    }
     let Ok(id) = ConnectionId::try_from(packet.dst_cid()) else { return Ok(None) };
     let of_client = [Some(connection.first_dcid()), connection.retry_id()];
     let is_of_client = about.sender == Side::Client && of_client.contains(&Some(&id));
-    let sources = &about.peer_half().sources;
-    if packet.header().is_short() || is_of_client || sources.contains(&id) || sources.is_empty() {
-        return Ok(None);
-    }
-    if is_issued(connection, !about.sender, &id) {
+    if is_of_client || sources.contains(&id) || is_issued(connection, !about.sender, &id) {
         return Ok(None);
     }
     let expected = sources.first().map_or_else(String::new, id_text);
     let at = begin(opened) + packet.header().dst_cid_pos().start;
-    Broken::new(id_text(&id), expected).at(at).if_still(Claim::Destination(id)).found()
+    Broken::new(format!("{} as the Destination Connection ID", id_text(&id)), expected)
+        .at(at)
+        .if_still(Claim::Destination(id))
+        .found()
 }
 
 // A Version Negotiation lets a client begin anew.
@@ -189,7 +192,7 @@ fn other_source(about: &About<'_>, opened: &Opened<'_>) -> Option<Broken> {
         return None;
     }
     let id = ConnectionId::try_from(opened.packet().src_cid()).unwrap_or_default();
-    let seen = format!("{} as the source", id_text(&id));
+    let seen = format!("{} as the Source Connection ID", id_text(&id));
     Some(Broken::new(seen, id_text(first)).at(begin(opened) + header.src_cid_pos().start))
 }
 
@@ -212,8 +215,8 @@ fn number_reuse(about: &About<'_>, opened: &Opened<'_>, before: &Sent) -> Checke
     if is_anew || opened.tag() == before.tag {
         return Ok(None);
     }
-    let seen = format!("number {} again, with other contents than in record {}", opened.number(), before.record);
-    let broken = Broken::new(seen, "a number that wasn't used before").at(number_at(opened));
+    let seen = format!("packet number {} again, with other contents than in record {}", opened.number(), before.record);
+    let broken = Broken::new(seen, "a packet number that wasn't used before").at(number_at(opened));
     let is_after_retry = opened.kind() == HeaderKind::Initial && is_to_retry(about, opened);
     if is_after_retry { broken.by("17.2.5.3").found() } else { broken.found() }
 }
@@ -314,5 +317,5 @@ fn retry_id(about: &About<'_>, packet: &PacketRef<'_>) -> Checked {
         return Ok(None);
     }
     let at = packet.place().range().start + packet.header().src_cid_pos().start;
-    Broken::new("the client's own Destination Connection ID as the source", "another id").at(at).found()
+    Broken::new("the client's Destination Connection ID as the Source Connection ID", "another id").at(at).found()
 }

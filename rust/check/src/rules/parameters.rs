@@ -69,13 +69,24 @@ fn refused(_: &About<'_>, list: &[u8], refusal: &Refusal) -> Checked {
         return Ok(None);
     }
     let name = match (id, refusal.id) {
-        (Some(id), _) => format!("{id:?}"),
+        (Some(id), _) => snake(&format!("{id:?}")),
         (None, Some(number)) => format!("the parameter {number:#x}"),
         (None, None) => "a parameter".into(),
     };
     let section = if refusal.error == Error::Malformed { "7.4" } else { "18.2" };
     let seen = format!("{} in {name}, byte {} of the {} of the list", refusal.error, refusal.offset, list.len());
-    Broken::new(seen, "a list that can be read").by(section).found()
+    Broken::new(seen, "what RFC 9000 permits").by(section).found()
+}
+
+// The RFC's name of a parameter, of its name in CamelCase.
+fn snake(name: &str) -> String {
+    name.char_indices().fold(String::new(), |mut snake, (at, c)| {
+        if at > 0 && c.is_ascii_uppercase() {
+            snake.push('_');
+        }
+        snake.push(c.to_ascii_lowercase());
+        snake
+    })
 }
 
 // The value of version_information, if it is there.
@@ -100,7 +111,7 @@ fn chosen_version(about: &About<'_>, opened: &Opened<'_>, list: &[u8]) -> Checke
     if chosen == version || chosen == about.connection.version() {
         return Ok(None);
     }
-    Broken::new(format!("the chosen version {chosen:#x}"), format!("{version:#x}, the packet's")).found()
+    Broken::new(format!("the chosen version {chosen:#x}"), format!("{version:#x}, the version of the packet")).found()
 }
 
 fn chosen_available(about: &About<'_>, _: &Opened<'_>, list: &[u8]) -> Checked {

@@ -117,7 +117,8 @@ fn allowances() {
         statuses[usize::from(status == 2)] += 1;
         let control = said.chars().chain(text.chars()).find(|c| c.is_control() && *c != '\n');
         assert!(control.is_none(), "{control:?} in {said:?}");
-        let is_said = said.starts_with("quic-wire: ") && said.lines().count() <= 2;
+        // A usage error has two lines more.
+        let is_said = said.starts_with("quic-wire: ") && said.lines().count() <= 3;
         assert!([0, 2].contains(&status) && is_said == (status == 2), "{allowed:?}, {status}: {said}");
     }
     assert!(statuses.iter().all(|count| *count > 0), "{statuses:?}");

@@ -1,7 +1,10 @@
 //! Writes a capture of many connections to standard output, as pcapng with their secrets: so many are live at any time,
 //! of which each closes after some packets and makes room for another, until the file has so many bytes.
 //!
-//! `generate CONNECTIONS BYTES [PACKETS_OF_EACH]`
+//! `generate CONNECTIONS BYTES [PACKETS_OF_EACH [DATA]]`
+//!
+//! Client and server send PINGs in turn; with DATA the server sends two packets with so many bytes of a stream, up to
+//! 16,383, and the client an ACK.
 #[path = "../tests/common/mod.rs"]
 mod common;
 #[path = "../tests/common/files.rs"]
@@ -12,11 +15,16 @@ mod made;
 use common::Kept;
 use files::{Order, interface, ip_datagram, packet, secrets, section};
 use made::{Client, Made, Server, Short};
+use quic_wire::Side;
 use std::error::Error;
 use std::io::{self, BufWriter, Write};
 
 /// How long after a packet the next one is sent, in nanoseconds.
 const STEP: u64 = 100_000;
+
+/// An integer of eight bytes (RFC 9000, section 16), and the greatest limit of data.
+const EIGHT_BYTES: u64 = 0xc000_0000_0000_0000;
+const MOST: u64 = u64::MAX;
 
 struct File<W: Write> {
     out: W,
@@ -37,6 +45,38 @@ impl<W: Write> File<W> {
         self.block(&packet(Order::Little, 0, self.time / 1000, &frame))
     }
 
+    // The client's PING and the server's ACK of it.
+    fn pings(&mut self, made: &mut Made) -> io::Result<()> {
+        let largest = made.numbers[0][2] as u16 | 0x4000;
+        let ping = made.send(Client, Short, &[1; 40]);
+        let ack = [&[2][..], &largest.to_be_bytes(), &[0, 0, 0], &[1; 40]].concat();
+        let answer = made.send(Server, Short, &ack);
+        self.datagram(&ping)?;
+        self.datagram(&answer)
+    }
+
+    // Two packets of a download and their ACK. Before them each side permits what the other does: a stream, and all data
+    // (RFC 9000, sections 19.9 to 19.11).
+    fn download(&mut self, made: &mut Made, len: u16) -> io::Result<()> {
+        if made.numbers[1][2] == 0 {
+            let permit = [&[0x12, 1, 0x10][..], &MOST.to_be_bytes()].concat();
+            let request = [&[0x0a, 0, 0, 0x10][..], &MOST.to_be_bytes(), &[0x11, 0], &MOST.to_be_bytes()].concat();
+            let (permit, request) = (made.send(Server, Short, &permit), made.send(Client, Short, &request));
+            self.datagram(&permit)?;
+            self.datagram(&request)?;
+        }
+        for _ in 0..2 {
+            let offset = (made.numbers[1][2] * u64::from(len)) | EIGHT_BYTES;
+            let stream = [&[0x0e, 0][..], &offset.to_be_bytes(), &(len | 0x4000).to_be_bytes(), &vec![7; len.into()]];
+            let payload = [ack_of_all(made, Client), stream.concat()].concat();
+            let packet = made.send(Server, Short, &payload);
+            self.datagram(&packet)?;
+        }
+        let payload = ack_of_all(made, Server);
+        let ack = made.send(Client, Short, &payload);
+        self.datagram(&ack)
+    }
+
     fn begin(&mut self, number: u32) -> io::Result<Made> {
         let id = |kind: u8| [&[kind][..], &number.to_be_bytes(), &[kind; 3]].concat();
         let mut made = Made { salt: number, ids: [id(1), id(2)], ..Made::new(7) };
@@ -49,12 +89,20 @@ impl<W: Write> File<W> {
     }
 }
 
+// An ACK of all 1-RTT packets of a side.
+fn ack_of_all(made: &Made, sender: Side) -> Vec<u8> {
+    let largest = (made.numbers[sender as usize][2] as u32 - 1) | 0x8000_0000;
+    [&[2][..], &largest.to_be_bytes(), &[0, 0], &largest.to_be_bytes()].concat()
+}
+
 fn main() -> Result<(), Box<dyn Error>> {
     let numbers: Vec<u64> = std::env::args().skip(1).map(|text| text.parse()).collect::<Result<_, _>>()?;
-    let (&[count, bytes, ref more @ ..], [] | [_]) = (&numbers[..], numbers.get(2..).unwrap_or_default()) else {
-        return Err("generate CONNECTIONS BYTES [PACKETS_OF_EACH]".into());
+    let (&[count, bytes, ref more @ ..], [] | [_] | [_, 1..=16_383]) =
+        (&numbers[..], numbers.get(2..).unwrap_or_default())
+    else {
+        return Err("generate CONNECTIONS BYTES [PACKETS_OF_EACH [DATA]]".into());
     };
-    let packets = more.first().copied().unwrap_or(100);
+    let (packets, data) = (more.first().copied().unwrap_or(100), more.get(1).map(|data| *data as u16));
     let mut file = File { out: BufWriter::new(io::stdout().lock()), time: 1_000_000_000, written: 0 };
     file.block(&[section(Order::Little), interface(Order::Little, 101, &[])].concat())?;
     let mut begun = u32::try_from(count)?;
@@ -69,13 +117,10 @@ fn main() -> Result<(), Box<dyn Error>> {
                 *made = file.begin(begun)?;
                 (begun, *left) = (begun + 1, packets);
             }
-            // The client's PING and the server's ACK of it.
-            let largest = made.numbers[0][2] as u16 | 0x4000;
-            let ping = made.send(Client, Short, &[1; 40]);
-            let ack = [&[2][..], &largest.to_be_bytes(), &[0, 0, 0], &[1; 40]].concat();
-            let answer = made.send(Server, Short, &ack);
-            file.datagram(&ping)?;
-            file.datagram(&answer)?;
+            match data {
+                Some(len) => file.download(made, len)?,
+                None => file.pings(made)?,
+            }
             *left -= 1;
         }
     }

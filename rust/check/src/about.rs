@@ -1,11 +1,11 @@
 //! What rules may see.
 
-use crate::history::{Half, History};
+use crate::half::Half;
+use crate::history::History;
 use crate::rule::Need;
 use crate::vantage::Vantage;
 use quic_wire::fields::Fault;
 use quic_wire::frame::{Frame, FrameType, InvalidFrame};
-use quic_wire::permitted::Forbidden;
 use quic_wire::transport_parameters::TransportParameters;
 use quic_wire::{ConnectionId, Side, varint};
 use quic_wire_capture::capture::Datagram;
@@ -37,7 +37,6 @@ pub(crate) struct About<'a> {
 pub(crate) struct Held<'a> {
     pub(crate) frame: &'a Frame<'a>,
     pub(crate) range: Range<usize>,
-    pub(crate) permitted: Result<(), Forbidden>,
     /// Its type.
     pub(crate) ty: u64,
 }

@@ -3,36 +3,44 @@
 use crate::about::{About, Current, Faulty, Held, type_of};
 use crate::claim::{Claim, GRACE, Pending};
 use crate::finding::{Finding, Groups, Report};
+use crate::histories::Histories;
 use crate::history::History;
-use crate::rule::{Broken, Check, Checked, Need, Rule};
+use crate::rule::{self, Broken, Check, Checked, Need, Rule};
 use crate::rules;
+use crate::table::{Kind, Table};
 use crate::vantage::Vantage;
 use quic_wire::Side;
 use quic_wire::datagram::{HeaderKind, PacketRef};
 use quic_wire::frame::Frame;
 use quic_wire::ids::SpaceId;
 use quic_wire::packet::LONG_HEADER_FORM;
+use quic_wire::permitted::Forbidden;
 use quic_wire_capture::capture::Datagram;
 use quic_wire_capture::connection::Connection;
 use quic_wire_capture::follow::Follower;
 use quic_wire_capture::opened::Opened;
 use quic_wire_capture::sink::{Ended, Event, Rest, Sink, Unopened};
-use std::collections::{HashMap, HashSet};
+use std::collections::HashSet;
 use std::net::SocketAddr;
+use std::ops::RangeInclusive;
 
-/// How many things of a kind are remembered: so many of all connections together, but at least some.
-const MOST_REMEMBERED: usize = 1 << 20;
-const LEAST_REMEMBERED: usize = 64;
+/// How many bytes are remembered: so many of all connections together, but at least some.
+const MOST_REMEMBERED: usize = 1 << 27;
+const LEAST_REMEMBERED: usize = 1 << 14;
+
+/// How many claims wait: so many of all connections together, but within these bounds.
+const MOST_CLAIMS: usize = 1 << 18;
+const CLAIMS_OF_CONNECTION: RangeInclusive<usize> = 16..=256;
 
 /// How many paths are remembered with datagrams that belong to no connection. With more, all paths count as such.
 const MOST_STRAYS: usize = 1 << 12;
 
 /// What checks the connections of a capture.
 pub struct Checker {
-    rules: Vec<&'static Rule>,
+    table: Table,
     /// Where the capture was taken, if that was said.
     vantage: Option<Vantage>,
-    histories: HashMap<usize, History>,
+    histories: Histories,
     groups: Groups,
     facts: Facts,
     current: Current,
@@ -103,8 +111,13 @@ impl Facts {
         let Pending { finding, claim, due, is_proven } = pending;
         let (sender, spaces) = (finding.sender, claim.spaces());
         let is_closed = connection.end(sender).closed().or(connection.end(!sender).closed()).is_some();
+        if history.is_full {
+            return Some(Need::Room);
+        }
         finding.rule.needs.iter().copied().find(|need| match need {
             Need::PeerPackets if matches!(claim, Claim::Bytes(_)) && history.lacks_handshake() => true,
+            // One of the client that isn't in the capture may have confirmed it.
+            Need::PeerPackets if matches!(claim, Claim::Unconfirmed) && !history.has_handshake(!sender) => true,
             Need::PeerPackets => !history.is_whole(!sender, spaces),
             Need::OwnPackets if matches!(claim, Claim::Retry) && !history.half(sender).has_initial() => true,
             Need::OwnPackets => !history.is_whole(sender, spaces),
@@ -151,9 +164,9 @@ impl Checker {
     /// With some rules.
     pub fn new(rules: impl IntoIterator<Item = &'static Rule>) -> Checker {
         Checker {
-            rules: rules.into_iter().collect(),
+            table: Table::new(rules),
             vantage: None,
-            histories: HashMap::new(),
+            histories: Histories::default(),
             groups: Groups::default(),
             facts: Facts::default(),
             current: Current::default(),
@@ -194,8 +207,12 @@ impl Checker {
 
     // Decides what waits for a connection's end.
     fn decide(&mut self, connection: &Connection) {
-        let Some(mut history) = self.histories.remove(&connection.number()) else { return };
+        let Some(mut history) = self.histories.remove(connection.number()) else { return };
         self.groups.count(self.vantage.unwrap_or_else(|| history.vantage()));
+        if history.is_full {
+            let with_history = self.table.all().iter().filter(|rule| rule.history != rule::History::None);
+            with_history.for_each(|rule| self.groups.silent(rule, Need::Room));
+        }
         let waiting = std::mem::take(&mut history.waiting);
         for pending in waiting.end(connection, &history) {
             match self.facts.lacking_at_end(&pending, connection, &history) {
@@ -210,10 +227,16 @@ impl Checker {
         &mut self,
         (connection, sender, datagram): (&Connection, Side, &Datagram<'_>),
         place: Place,
+        kind: Kind,
         check: impl Fn(&Check, &About<'_>) -> Option<Checked>,
     ) {
-        let Checker { rules, vantage, histories, groups, facts, current, .. } = self;
-        let history = histories.entry(connection.number()).or_default();
+        let Checker { table, vantage, histories, groups, facts, current, .. } = self;
+        let rules = table.of(kind);
+        if rules.is_empty() {
+            return;
+        }
+        let most_claims = MOST_CLAIMS / histories.len();
+        let history = histories.of(connection.number());
         let mut claims: Vec<(Finding, Claim)> = Vec::new();
         let vantage = vantage.unwrap_or_else(|| history.vantage());
         let about = About { connection, datagram, sender, history, current: *current, vantage };
@@ -228,8 +251,9 @@ impl Checker {
                 },
             }
         }
+        let most = most_claims.clamp(*CLAIMS_OF_CONNECTION.start(), *CLAIMS_OF_CONNECTION.end());
         for (finding, claim) in claims {
-            if let Some(left) = history.waiting.add(finding, claim) {
+            if let Some(left) = history.waiting.add(finding, claim, most) {
                 let need = if matches!(left.claim, Claim::Unsent { .. }) { Need::Proof } else { Need::Room };
                 groups.silent(left.finding.rule, need);
             }
@@ -260,13 +284,13 @@ impl Checker {
         self.current = Current::default();
         self.opened = Some((datagram.record, connection.number()));
         if self.begin_datagram(connection, opened.sender(), datagram) {
-            self.judge(what, place, |rule, about| match rule {
+            self.judge(what, place, Kind::Datagram, |rule, about| match rule {
                 Check::Datagram(check) => Some(check(about)),
                 _ => None,
             });
         }
-        let most = (MOST_REMEMBERED / self.histories.len().max(1)).max(LEAST_REMEMBERED);
-        self.judge(what, place, |rule, about| match rule {
+        let most = (MOST_REMEMBERED / self.histories.len()).max(LEAST_REMEMBERED);
+        self.judge(what, place, Kind::Packet, |rule, about| match rule {
             Check::Packet(check) => Some(check(about, opened)),
             _ => None,
         });
@@ -279,18 +303,18 @@ impl Checker {
     }
 
     fn history(&mut self, connection: &Connection) -> &mut History {
-        self.histories.entry(connection.number()).or_default()
+        self.histories.of(connection.number())
     }
 
+    // A frame that its sender may send in such a packet.
     fn frame(&mut self, connection: &Connection, datagram: &Datagram<'_>, opened: &Opened<'_>, held: &Held<'_>) {
-        // Most frames of most captures.
-        if matches!(held.frame, Frame::Padding) && held.permitted.is_ok() {
-            return;
+        if let Ok(ty) = u8::try_from(held.ty) {
+            let what = (connection, opened.sender(), datagram);
+            self.judge(what, Place::of(opened), Kind::Frame(ty), |rule, about| match rule {
+                Check::Frame(_, check) => Some(check(about, opened, held)),
+                _ => None,
+            });
         }
-        self.judge((connection, opened.sender(), datagram), Place::of(opened), |rule, about| match rule {
-            Check::Frame(check) => Some(check(about, opened, held)),
-            _ => None,
-        });
         self.current.elicits |= held.frame.is_ack_eliciting();
         self.current.has_close |= matches!(held.frame, Frame::Close(_));
         if let Frame::Ack(ack) = held.frame {
@@ -299,28 +323,55 @@ impl Checker {
             self.current.acknowledges_close |=
                 number.is_some_and(|number| ack.iter().any(|range| range.contains(&number)));
         }
-        if held.permitted.is_ok() {
-            self.history(connection).take_frame(connection, datagram, opened, held.frame);
-        }
+        self.history(connection).take_frame(connection, datagram, opened, held.frame);
+    }
+
+    // One that it may not send there.
+    fn forbidden(
+        &mut self,
+        connection: &Connection,
+        datagram: &Datagram<'_>,
+        opened: &Opened<'_>,
+        (held, why): (&Held<'_>, Forbidden),
+    ) {
+        let what = (connection, opened.sender(), datagram);
+        self.judge(what, Place::of(opened), Kind::Forbidden, |rule, _| match rule {
+            Check::Forbidden(check) => Some(check(opened, held, why)),
+            _ => None,
+        });
+        self.current.elicits |= held.frame.is_ack_eliciting();
+        self.current.has_close |= matches!(held.frame, Frame::Close(_));
     }
 
     // A packet that was opened, but not its frames one by one.
     fn event(&mut self, connection: &Connection, datagram: &Datagram<'_>, opened: &Opened<'_>, event: &Event<'_>) {
-        self.judge((connection, opened.sender(), datagram), Place::of(opened), |rule, about| match (rule, event) {
-            (Check::Done(check), Event::Done(opened)) => Some(check(about, opened)),
-            (Check::Again(check), Event::Again(opened, Some(before))) => Some(check(about, opened, before)),
-            (Check::Empty(check), Event::Empty(opened)) => Some(check(about, opened)),
-            (Check::Invalid(check), Event::Invalid { opened, error, offset, fault }) => {
-                let ty = opened.payload().get(*offset..).and_then(type_of);
-                Some(check(about, opened, &Faulty { error, offset: *offset, fault: fault.as_ref(), ty }))
-            }
-            (Check::Parameters(check), Event::Parameters { read: Ok(read), .. }) => Some(check(about, read)),
-            (Check::List(check), Event::Parameters { opened, list, read: Ok(_) }) => Some(check(about, opened, list)),
-            (Check::Refusal(check), Event::Parameters { list, read: Err(refusal), .. }) => {
-                Some(check(about, list, refusal))
-            }
-            _ => None,
-        });
+        let kinds: &[Kind] = match event {
+            Event::Done(_) => &[Kind::Done],
+            Event::Again(..) => &[Kind::Again],
+            Event::Empty(_) => &[Kind::Empty],
+            Event::Invalid { .. } => &[Kind::Invalid],
+            Event::Parameters { read: Ok(_), .. } => &[Kind::Parameters, Kind::List],
+            Event::Parameters { .. } => &[Kind::Refusal],
+            _ => &[],
+        };
+        let what = (connection, opened.sender(), datagram);
+        for kind in kinds {
+            self.judge(what, Place::of(opened), *kind, |rule, about| match (rule, event) {
+                (Check::Done(check), Event::Done(opened)) => Some(check(about, opened)),
+                (Check::Again(check), Event::Again(opened, Some(before))) => Some(check(about, opened, before)),
+                (Check::Empty(check), Event::Empty(opened)) => Some(check(about, opened)),
+                (Check::Invalid(check), Event::Invalid { opened, error, offset, fault }) => {
+                    let ty = opened.payload().get(*offset..).and_then(type_of);
+                    Some(check(about, opened, &Faulty { error, offset: *offset, fault: fault.as_ref(), ty }))
+                }
+                (Check::Parameters(check), Event::Parameters { read: Ok(read), .. }) => Some(check(about, read)),
+                (Check::List(check), Event::Parameters { opened, list, .. }) => Some(check(about, opened, list)),
+                (Check::Refusal(check), Event::Parameters { list, read: Err(refusal), .. }) => {
+                    Some(check(about, list, refusal))
+                }
+                _ => None,
+            });
+        }
     }
 }
 
@@ -328,10 +379,16 @@ impl Sink for Checker {
     fn opened(&mut self, connection: &Connection, datagram: &Datagram<'_>, _: u64, event: &Event<'_>) {
         match event {
             Event::Packet(opened) => self.packet(connection, datagram, opened),
+            // Most frames of most captures.
+            Event::Frame { frame: Frame::Padding, permitted: Ok(()), .. } => {}
+            Event::Frame { frame: Frame::Ping, permitted: Ok(()), .. } => self.current.elicits = true,
             Event::Frame { opened, frame, range, permitted } => {
                 let ty = opened.payload().get(range.clone()).and_then(type_of).unwrap_or_default();
-                let held = Held { frame, range: range.clone(), permitted: *permitted, ty };
-                self.frame(connection, datagram, opened, &held);
+                let held = Held { frame, range: range.clone(), ty };
+                match permitted {
+                    Ok(()) => self.frame(connection, datagram, opened, &held),
+                    Err(why) => self.forbidden(connection, datagram, opened, (&held, *why)),
+                }
             }
             Event::Again(opened, _) => {
                 self.begin_unsure(connection, opened.sender(), datagram);
@@ -370,7 +427,7 @@ impl Sink for Checker {
         if why == Unopened::Retry {
             let begin = packet.place().range().start;
             let place = Place { kind, number: None, begin, payload: begin };
-            self.judge((connection, sender, datagram), place, |rule, about| match rule {
+            self.judge((connection, sender, datagram), place, Kind::Retry, |rule, about| match rule {
                 Check::Retry(check) => Some(check(about, packet)),
                 _ => None,
             });
@@ -386,7 +443,7 @@ impl Sink for Checker {
             return;
         }
         let place = Place { kind: kind_at(datagram.bytes, offset), number: None, begin: offset, payload: offset };
-        self.judge((connection, sender, datagram), place, |rule, about| match rule {
+        self.judge((connection, sender, datagram), place, Kind::Rest, |rule, about| match rule {
             Check::Rest(check) => Some(check(about, offset)),
             _ => None,
         });

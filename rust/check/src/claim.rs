@@ -13,8 +13,7 @@ use std::net::SocketAddr;
 /// two queues.
 pub(crate) const GRACE: u64 = 10_000_000;
 
-// How many claims of a connection wait.
-const MOST_WAITING: usize = 256;
+// How many claims of a connection that something wasn't sent wait.
 const MOST_UNSENT: usize = 64;
 
 const DATA: &[SpaceId] = &[SpaceId::Data];
@@ -53,6 +52,10 @@ pub(crate) enum Claim {
     BytesTo(SocketAddr, u64),
     /// It sent a long header to an id that its peer didn't choose and didn't issue.
     Destination(ConnectionId),
+    /// It did what has to wait until its handshake is confirmed.
+    Unconfirmed,
+    /// It updated its keys so often, its peer less often, and no number from `since` on was acknowledged.
+    Update { updates: u64, since: u64 },
 }
 
 impl Claim {
@@ -62,7 +65,7 @@ impl Claim {
             Claim::Unsent { space, .. } | Claim::Number { space, .. } => std::slice::from_ref(space),
             // A datagram at the end of a space leaves no gap; those of the other spaces show whether any are missing.
             Claim::Bytes(_) | Claim::BytesTo(..) => ALL,
-            Claim::Destination(_) => ALL,
+            Claim::Destination(_) | Claim::Unconfirmed => ALL,
             // Keys of Initial packets follow from the id of a Retry.
             Claim::Retry => &[SpaceId::Initial],
             _ => DATA,
@@ -115,8 +118,25 @@ impl Claim {
                 history.peer(address).is_some_and(|peer| !peer.is_valid && bytes > peer.received.saturating_mul(3))
             }
             Claim::Destination(id) => !peer.sources.contains(&id) && !is_issued(connection, !sender, &id),
+            Claim::Unconfirmed => is_unconfirmed(connection, history, sender),
+            Claim::Update { updates, since } => {
+                let acknowledged = connection.end(sender).acknowledged(SpaceId::Data);
+                peer.updates() < updates && acknowledged.is_none_or(|largest| largest < since)
+            }
         }
     }
+}
+
+/// Whether nothing shows a side that the handshake is confirmed (RFC 9001, section 4.1.2): to a server the client's last
+/// message, which is in a Handshake packet; to a client HANDSHAKE_DONE, or an ACK in a 1-RTT packet. Nor has its peer
+/// updated the keys.
+pub(crate) fn is_unconfirmed(connection: &Connection, history: &History, side: Side) -> bool {
+    let peer = history.half(!side);
+    let is_shown = match side {
+        Side::Client => peer.has_done() || connection.end(side).acknowledged(SpaceId::Data).is_some(),
+        Side::Server => peer.has_handshake(),
+    };
+    !is_shown && peer.updates() == 0
 }
 
 /// How many bytes a side may send on all streams (RFC 9000, section 4.1).
@@ -140,12 +160,6 @@ pub(crate) fn count_limit(limits: &TransportParameters, history: &History, sende
     let is_uni = id.dir() == Dir::Uni;
     let first = if is_uni { limits.initial_max_streams_uni } else { limits.initial_max_streams_bidi };
     first.into_inner().max(history.half(sender).max_streams[usize::from(is_uni)])
-}
-
-/// How far a number is from the largest of its sender that is acknowledged (RFC 9000, section 17.1).
-pub(crate) fn distance(connection: &Connection, sender: Side, space: SpaceId, number: u64) -> u64 {
-    let acknowledged = connection.end(sender).acknowledged(space);
-    acknowledged.map_or(number.saturating_add(1), |acknowledged| number.saturating_sub(acknowledged))
 }
 
 /// How many ids of a side are active, with a further one (RFC 9000, section 5.1.1).
@@ -198,20 +212,23 @@ pub(crate) struct Waiting {
 }
 
 impl Waiting {
-    /// Adds a claim. Returns one for which there is no room.
-    pub(crate) fn add(&mut self, finding: Finding, claim: Claim) -> Option<Pending> {
+    /// Adds a claim. Returns one for which there is no room, if there is for so many.
+    pub(crate) fn add(&mut self, finding: Finding, claim: Claim, most: usize) -> Option<Pending> {
         let due = claim.is_timed().then(|| finding.time.saturating_add(GRACE));
         let is_unsent = matches!(claim, Claim::Unsent { .. });
         let pending = Pending { finding, claim, due, is_proven: !is_unsent };
         if is_unsent {
             self.unsent.push_back(pending);
             // Those that were shown stay.
-            let oldest = self.unsent.iter().position(|one| !one.is_proven).filter(|_| self.unsent.len() > MOST_UNSENT);
+            let is_full = self.unsent.len() > most.min(MOST_UNSENT);
+            let oldest = self.unsent.iter().position(|one| !one.is_proven).filter(|_| is_full);
             return oldest.and_then(|oldest| self.unsent.remove(oldest));
         }
-        if self.claims.len() >= MOST_WAITING {
+        if self.claims.len() >= most {
             return Some(pending);
         }
+        // Most connections have few.
+        self.claims.reserve_exact(1);
         self.claims.push(pending);
         None
     }

@@ -1,8 +1,9 @@
 //! What is remembered of a connection beside what `quic_wire_capture` knows of it.
 
 use crate::claim::Waiting;
+use crate::half::{Half, Moment, Path, Reset};
 use crate::vantage::Vantage;
-use quic_wire::datagram::PacketRef;
+use quic_wire::datagram::{HeaderKind, PacketRef};
 use quic_wire::frame::{Ack, Crypto, Frame};
 use quic_wire::ids::SpaceId;
 use quic_wire::range_set::RangeSet;
@@ -11,7 +12,7 @@ use quic_wire::{ConnectionId, Dir, Side, StreamId};
 use quic_wire_capture::capture::Datagram;
 use quic_wire_capture::connection::Connection;
 use quic_wire_capture::opened::Opened;
-use std::collections::{BTreeMap, HashMap, HashSet};
+use std::hash::{DefaultHasher, Hash, Hasher};
 use std::net::SocketAddr;
 
 // Parameters of other documents that permit no frame: version_information (RFC 9368), and those with which Chromium's
@@ -24,41 +25,11 @@ const MOST_SOURCES: usize = 8;
 // How many addresses of a client are remembered.
 const MOST_PEERS: usize = 16;
 
+// Up to how many runs are inserted one by one.
+const FEW_RUNS: usize = 64;
+
 // How many bytes of CRYPTO data are remembered from before a Retry.
 const MOST_HELLO: usize = 1 << 12;
-
-/// What a side sent on a stream.
-#[derive(Clone, Copy, Debug, Default)]
-pub(crate) struct Stream {
-    /// Up to where, by the greatest offset.
-    pub(crate) end: u64,
-    /// Its final size.
-    pub(crate) size: Option<u64>,
-    /// Up to where its peer allowed it with MAX_STREAM_DATA.
-    pub(crate) limit: u64,
-    /// The least number of a packet with its RESET_STREAM.
-    pub(crate) reset: Option<u64>,
-}
-
-/// When something was captured, and in which record.
-#[derive(Clone, Copy, Debug)]
-pub(crate) struct Moment {
-    pub(crate) time: u64,
-    pub(crate) record: u64,
-}
-
-impl Moment {
-    fn of(datagram: &Datagram<'_>) -> Moment {
-        Moment { time: datagram.time, record: datagram.record }
-    }
-}
-
-/// The addresses between which a PATH_CHALLENGE was sent.
-#[derive(Clone, Copy, Debug)]
-pub(crate) struct Path {
-    pub(crate) from: SocketAddr,
-    pub(crate) to: SocketAddr,
-}
 
 /// An address of the client, and the bytes of the datagrams that came from there and went there.
 #[derive(Clone, Copy, Debug)]
@@ -70,141 +41,26 @@ pub(crate) struct Peer {
     pub(crate) is_valid: bool,
 }
 
-/// The keys after an update, and the least number of a packet with them.
-#[derive(Clone, Copy, Debug)]
-pub(crate) struct Phase {
-    pub(crate) updates: u64,
-    pub(crate) first: u64,
+/// A token of an Initial packet or a Retry, which may be long: its length and a hash.
+#[derive(Clone, Copy, Debug, PartialEq, Eq)]
+pub(crate) struct Token {
+    pub(crate) len: usize,
+    hash: u64,
+}
+
+impl Token {
+    pub(crate) fn of(token: &[u8]) -> Token {
+        let mut hasher = DefaultHasher::new();
+        token.hash(&mut hasher);
+        Token { len: token.len(), hash: hasher.finish() }
+    }
 }
 
 /// What a Retry said.
+#[derive(Clone, Copy)]
 pub(crate) struct Retry {
-    pub(crate) token: Vec<u8>,
+    pub(crate) token: Token,
     pub(crate) version: u32,
-}
-
-/// What is known of a side, as the sender of packets.
-#[derive(Default)]
-pub(crate) struct Half {
-    /// The numbers of its packets in each space.
-    seen: [RangeSet; 3],
-    /// Those that its peer acknowledged.
-    acknowledged: [RangeSet; 3],
-    /// How many packets of each space weren't opened.
-    unopened: [u64; 3],
-    /// The source ids of its packets.
-    pub(crate) sources: Vec<ConnectionId>,
-    pub(crate) streams: HashMap<u64, Stream>,
-    /// The greatest index of each type of streams that it used, by the two low bits of their ids.
-    pub(crate) used: [Option<u64>; 4],
-    /// How many bytes it sent on all streams.
-    pub(crate) total: u64,
-    /// What its peer allowed with MAX_DATA and MAX_STREAMS.
-    pub(crate) max_data: u64,
-    pub(crate) max_streams: [u64; 2],
-    /// The sequence numbers of its ids that its peer retired, with the least number of a packet in which it did so.
-    pub(crate) retired: BTreeMap<u64, u64>,
-    /// Up to which its ids have to be retired, and the number of the packet that said so.
-    pub(crate) prior: u64,
-    prior_by: Option<u64>,
-    /// Up to which ids of its peer it knows that they have to be retired, and the number of its packet that shows it.
-    pub(crate) heeded: Option<(u64, u64)>,
-    /// The sequence numbers that it gave with NEW_CONNECTION_ID.
-    pub(crate) issued: RangeSet,
-    /// The data of its PATH_CHALLENGEs, and where these were sent.
-    pub(crate) challenges: HashMap<u64, Path>,
-    /// The data of its PATH_RESPONSEs.
-    pub(crate) responses: HashSet<u64>,
-    /// The numbers of its packets with HANDSHAKE_DONE.
-    dones: RangeSet,
-    /// When it showed that it has discarded the keys of Initial and of Handshake packets.
-    discarded: [Option<Moment>; 2],
-    /// The least number of its 1-RTT packets.
-    pub(crate) least_short: Option<u64>,
-    /// Its last keys of 1-RTT packets, if it has updated them.
-    pub(crate) phase: Option<Phase>,
-    /// Whether it offers an extension that isn't known here.
-    pub(crate) has_extension: bool,
-    /// The bytes of its datagrams.
-    pub(crate) bytes: u64,
-    /// Whether the capturing host sent any of them, and whether it received any.
-    is_sent: bool,
-    is_received: bool,
-    has_handshake: bool,
-    /// From where all of its Handshake packets came.
-    address: Option<SocketAddr>,
-    has_addresses: bool,
-}
-
-impl Half {
-    /// From where its Handshake packets came, if that is one address.
-    pub(crate) fn address(&self) -> Option<SocketAddr> {
-        self.address.filter(|_| !self.has_addresses)
-    }
-
-    /// When it showed that it has discarded the keys of a space (RFC 9001, section 4.9).
-    pub(crate) fn discarded(&self, space: SpaceId) -> Option<Moment> {
-        self.discarded.get(space as usize).copied().flatten()
-    }
-
-    /// Whether an Initial packet of it was opened.
-    pub(crate) fn has_initial(&self) -> bool {
-        !self.seen[SpaceId::Initial as usize].is_empty()
-    }
-
-    // Whether all of its packets are known, up to the last one.
-    fn has_all(&self, space: SpaceId) -> bool {
-        let seen = &self.seen[space as usize];
-        self.is_whole(space) && seen.len() <= 1 && seen.min().is_none_or(|least| least == 0)
-    }
-
-    fn add_phase(&mut self, updates: u64, number: u64) {
-        match &mut self.phase {
-            Some(phase) if phase.updates == updates => phase.first = phase.first.min(number),
-            Some(phase) if phase.updates > updates => {}
-            _ if updates == 0 => {}
-            phase => *phase = Some(Phase { updates, first: number }),
-        }
-    }
-
-    pub(crate) fn has_unopened(&self, space: SpaceId) -> bool {
-        self.unopened[space as usize] > 0
-    }
-
-    // Whether all of its packets that its peer may have received are known.
-    fn is_whole(&self, space: SpaceId) -> bool {
-        let (seen, acknowledged) = (&self.seen[space as usize], &self.acknowledged[space as usize]);
-        if self.has_unopened(space) {
-            return false;
-        }
-        let mut lost = acknowledged.clone();
-        lost.subtract(seen);
-        let mut missing = RangeSet::new();
-        missing.insert(0..seen.max().map_or(0, |largest| largest + 1));
-        missing.subtract(seen);
-        lost.is_empty() && (missing.is_empty() || missing.max() < acknowledged.max())
-    }
-
-    fn stream(&mut self, id: StreamId) -> &mut Stream {
-        self.streams.entry(id.into()).or_default()
-    }
-
-    fn take_data(&mut self, id: StreamId, until: u64, is_final: bool) {
-        let stream = self.stream(id);
-        if is_final {
-            stream.size = stream.size.or(Some(until));
-        }
-        let more = until.saturating_sub(stream.end);
-        stream.end = stream.end.max(until);
-        self.total = self.total.saturating_add(more);
-    }
-
-    fn size(&self) -> usize {
-        let runs = self.seen.iter().chain(&self.acknowledged).map(RangeSet::len);
-        let sets = [&self.issued, &self.dones].map(RangeSet::len);
-        let maps = [self.streams.len(), self.retired.len(), self.challenges.len(), self.responses.len()];
-        runs.chain(sets).chain(maps).max().unwrap_or(0)
-    }
 }
 
 /// What is remembered of a connection.
@@ -222,7 +78,11 @@ pub(crate) struct History {
     /// The client's addresses.
     peers: Vec<Peer>,
     /// A Retry whose tag is right.
-    pub(crate) retry: Option<Box<Retry>>,
+    pub(crate) retry: Option<Retry>,
+    /// The version and the least number of the client's Initial packets with a token.
+    pub(crate) first_token: Option<(u32, u64)>,
+    /// The version of the client's last Initial packet before the server answered.
+    pub(crate) original_version: Option<u32>,
     /// The CRYPTO data that the client sent to its first id, with their offsets, as long as a Retry may come.
     pub(crate) hello: Vec<(u64, Vec<u8>)>,
     /// Whether more would have to be remembered than is.
@@ -233,6 +93,30 @@ pub(crate) struct History {
 // Notes that an address of the client is valid.
 fn validate(peers: &mut [Peer], address: SocketAddr) {
     peers.iter_mut().filter(|peer| peer.address == address).for_each(|peer| peer.is_valid = true);
+}
+
+// Inserts the numbers of an ACK. A run between others moves those behind it, so many of them are merged with the others.
+fn insert_all(set: &mut RangeSet, ack: &Ack<'_>) {
+    let ranges = || ack.iter().map(|range| *range.start()..range.end().saturating_add(1));
+    if set.len() <= FEW_RUNS || ranges().nth(FEW_RUNS).is_none() {
+        for range in ranges() {
+            set.insert(range);
+        }
+        return;
+    }
+    let (mut merged, mut old) = (RangeSet::new(), set.iter().peekable());
+    let mut new: Vec<_> = ranges().collect();
+    // An ACK has the greatest numbers first.
+    while let Some(range) = new.pop() {
+        while let Some(before) = old.next_if(|before| before.start <= range.start) {
+            merged.insert(before);
+        }
+        merged.insert(range);
+    }
+    for run in old {
+        merged.insert(run);
+    }
+    *set = merged;
 }
 
 /// The two low bits of a stream's id.
@@ -282,6 +166,11 @@ impl History {
         is_past && !client.has_handshake
     }
 
+    /// Whether a Handshake packet of a side was opened.
+    pub(crate) fn has_handshake(&self, side: Side) -> bool {
+        self.half(side).has_handshake
+    }
+
     /// Takes a datagram of a side.
     pub(crate) fn take_datagram(&mut self, datagram: &Datagram<'_>, sender: Side) {
         let half = &mut self.halves[sender as usize];
@@ -296,6 +185,7 @@ impl History {
     fn take_bytes(&mut self, datagram: &Datagram<'_>, sender: Side, bytes: u64) {
         let address = if sender == Side::Client { datagram.from } else { datagram.to };
         if self.peer(address).is_none() && self.peers.len() < MOST_PEERS {
+            self.peers.reserve_exact(1);
             self.peers.push(Peer { address, received: 0, sent: 0, is_valid: !self.is_confirmed });
         }
         let Some(peer) = self.peers.iter_mut().find(|peer| peer.address == address) else { return };
@@ -323,23 +213,27 @@ impl History {
         self.halves[sender as usize].unopened[space as usize] += 1;
     }
 
-    /// Takes the header of an opened packet whose number is new. Of each kind only so many things are remembered.
+    /// Takes the header of an opened packet whose number is new. Only about so many bytes are remembered.
     pub(crate) fn take_packet(&mut self, datagram: &Datagram<'_>, opened: &Opened<'_>, most: usize) {
-        use quic_wire::datagram::HeaderKind::{Handshake, Initial, ZeroRtt};
+        use HeaderKind::{Handshake, Initial, ZeroRtt};
         let (sender, packet) = (opened.sender(), opened.packet());
         let server_id = self.halves[Side::Server as usize].sources.first().copied();
         let half = &mut self.halves[sender as usize];
-        self.is_full |= half.size() >= most;
+        self.is_full |= half.is_full(most / 2);
+        if packet.header().is_short() {
+            half.least_short = Some(half.least_short.map_or(opened.number(), |least| least.min(opened.number())));
+            half.add_phase(opened.updates(), opened.number());
+        }
         if !self.is_full {
             half.seen[opened.space() as usize].insert_one(opened.number());
         }
         if packet.header().is_short() {
-            half.least_short = Some(half.least_short.map_or(opened.number(), |least| least.min(opened.number())));
-            half.add_phase(opened.updates(), opened.number());
             return;
         }
         let source = ConnectionId::try_from(packet.src_cid()).unwrap_or_default();
         if !half.sources.contains(&source) && half.sources.len() < MOST_SOURCES {
+            // Most have one.
+            half.sources.reserve_exact(1);
             half.sources.push(source);
         }
         if opened.kind() == Handshake {
@@ -357,6 +251,14 @@ impl History {
             let has_token = opened.kind() == Initial && !packet.token().is_empty();
             self.has_token |= has_token;
             self.is_validated |= opened.kind() == Handshake || has_token || knows;
+            if opened.kind() == Initial {
+                let version = packet.header().version();
+                if has_token {
+                    let (_, least) = self.first_token.get_or_insert((version, opened.number()));
+                    *least = opened.number().min(*least);
+                }
+                self.original_version = self.original_version.filter(|_| server_id.is_some()).or(Some(version));
+            }
         } else {
             // No Retry can come any more.
             self.hello = Vec::new();
@@ -367,12 +269,17 @@ impl History {
     pub(crate) fn take_retry(&mut self, packet: &PacketRef<'_>) {
         if let Some((token, _)) = packet.header().retry(packet.data()) {
             let version = packet.header().version();
-            self.retry = Some(Box::new(Retry { token: token.to_vec(), version }));
+            self.retry = Some(Retry { token: Token::of(token), version });
         }
     }
 
-    // Notes CRYPTO data from before a Retry.
-    fn take_hello(&mut self, connection: &Connection, opened: &Opened<'_>, crypto: &Crypto<'_>) {
+    // Notes where messages begin, and CRYPTO data from before a Retry.
+    fn take_crypto(&mut self, connection: &Connection, opened: &Opened<'_>, crypto: &Crypto<'_>) {
+        let half = &mut self.halves[opened.sender() as usize];
+        half.messages[opened.space() as usize].take(crypto);
+        if opened.kind() != HeaderKind::Short {
+            half.crypto_version = Some(opened.packet().header().version());
+        }
         let is_first = opened.sender() == Side::Client && *opened.packet().dst_cid() == **connection.first_dcid();
         let may_retry = connection.end(Side::Server).first_scid().is_none();
         let len: usize = self.hello.iter().map(|(_, bytes)| bytes.len()).sum();
@@ -392,7 +299,7 @@ impl History {
         let (sender, number) = (opened.sender(), opened.number());
         match frame {
             Frame::Ack(ack) => return self.take_ack(connection, datagram, opened, ack),
-            Frame::Crypto(crypto) => return self.take_hello(connection, opened, crypto),
+            Frame::Crypto(crypto) => return self.take_crypto(connection, opened, crypto),
             _ if self.is_full => return,
             _ => {}
         }
@@ -440,8 +347,9 @@ impl History {
                 }
             }
             Frame::ResetStream(reset) => {
-                let by = &mut own.stream(reset.id).reset;
-                *by = Some(by.map_or(number, |by| by.min(number)));
+                let code = reset.error_code.into_inner();
+                let first = own.stream(reset.id).reset.get_or_insert(Reset { by: number, code });
+                first.by = first.by.min(number);
             }
             Frame::HandshakeDone => {
                 self.is_confirmed = true;
@@ -456,10 +364,7 @@ impl History {
         let (sender, space) = (opened.sender(), opened.space());
         self.take_knowledge(datagram, opened, ack);
         if !self.is_full {
-            let acknowledged = &mut self.halves[!sender as usize].acknowledged[space as usize];
-            for range in ack {
-                acknowledged.insert(*range.start()..range.end().saturating_add(1));
-            }
+            insert_all(&mut self.halves[!sender as usize].acknowledged[space as usize], ack);
         }
         self.is_confirmed |= sender == Side::Server && space == SpaceId::Handshake;
         // A packet that was never sent shows nothing.

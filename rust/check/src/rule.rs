@@ -3,6 +3,7 @@
 use crate::about::{About, Faulty, Held};
 use crate::claim::Claim;
 use quic_wire::datagram::PacketRef;
+use quic_wire::permitted::Forbidden;
 use quic_wire::transport_parameters::{Refusal, TransportParameters};
 use quic_wire_capture::end::Sent;
 use quic_wire_capture::opened::Opened;
@@ -197,6 +198,45 @@ impl Rule {
 /// Whether a rule is kept, how it is broken, or what is missing to say that.
 pub(crate) type Checked = Result<Option<Broken>, Need>;
 
+/// Types of frames below 64. There are no rules about those of others.
+#[derive(Clone, Copy, Debug)]
+pub(crate) struct Types(u64);
+
+impl Types {
+    pub(crate) const ACK: Types = Types::of(&[0x02, 0x03]);
+    pub(crate) const RESET_STREAM: Types = Types::of(&[0x04]);
+    pub(crate) const CRYPTO: Types = Types::of(&[0x06]);
+    /// Those that end at an offset of a stream: STREAM and RESET_STREAM.
+    pub(crate) const DATA: Types = Types::of(&[0x04, 0x08, 0x09, 0x0a, 0x0b, 0x0c, 0x0d, 0x0e, 0x0f]);
+    /// Those that a side sends before it resets a stream: STREAM and STREAM_DATA_BLOCKED.
+    pub(crate) const SENDING: Types = Types::of(&[0x08, 0x09, 0x0a, 0x0b, 0x0c, 0x0d, 0x0e, 0x0f, 0x15]);
+    /// Those that name a stream.
+    pub(crate) const OF_STREAMS: Types =
+        Types::of(&[0x04, 0x05, 0x08, 0x09, 0x0a, 0x0b, 0x0c, 0x0d, 0x0e, 0x0f, 0x11, 0x15]);
+    pub(crate) const NEW_CONNECTION_ID: Types = Types::of(&[0x18]);
+    pub(crate) const RETIRE_CONNECTION_ID: Types = Types::of(&[0x19]);
+    pub(crate) const PATH_CHALLENGE: Types = Types::of(&[0x1a]);
+    pub(crate) const PATH_RESPONSE: Types = Types::of(&[0x1b]);
+    pub(crate) const PATHS: Types = Types::of(&[0x1a, 0x1b]);
+    pub(crate) const CLOSE: Types = Types::of(&[0x1c, 0x1d]);
+    pub(crate) const HANDSHAKE_DONE: Types = Types::of(&[0x1e]);
+    pub(crate) const DATAGRAM: Types = Types::of(&[0x30, 0x31]);
+
+    const fn of(types: &[u8]) -> Types {
+        let (mut bits, mut at) = (0, 0);
+        while at < types.len() {
+            bits |= 1 << types[at];
+            at += 1;
+        }
+        Types(bits)
+    }
+
+    /// Whether a type is one of them.
+    pub(crate) fn has(self, ty: u64) -> bool {
+        ty < 64 && self.0 >> ty & 1 == 1
+    }
+}
+
 /// What a rule is about, and how it is checked. What is known is as it was before.
 #[derive(Debug)]
 pub(crate) enum Check {
@@ -210,8 +250,10 @@ pub(crate) enum Check {
     Retry(fn(&About<'_>, &PacketRef<'_>) -> Checked),
     /// The end of a datagram from an offset on, which has another id than its first packet.
     Rest(fn(&About<'_>, usize) -> Checked),
-    /// A frame.
-    Frame(fn(&About<'_>, &Opened<'_>, &Held<'_>) -> Checked),
+    /// A frame of these types that its sender may send in such a packet.
+    Frame(Types, fn(&About<'_>, &Opened<'_>, &Held<'_>) -> Checked),
+    /// One of any type that it may not send there.
+    Forbidden(fn(&Opened<'_>, &Held<'_>, Forbidden) -> Checked),
     /// What is no frame.
     Invalid(fn(&About<'_>, &Opened<'_>, &Faulty<'_>) -> Checked),
     /// A payload without bytes.

@@ -2,7 +2,9 @@
 
 mod datagrams;
 mod frames;
+mod handshake;
 mod ids;
+mod keys;
 mod packets;
 mod parameters;
 mod streams;
@@ -16,9 +18,9 @@ use crate::rule::Rule;
 /// assert_eq!(rule.section.to_string(), "RFC 9000, section 4.5");
 /// ```
 pub fn all() -> impl Iterator<Item = &'static Rule> {
-    [datagrams::RULES, packets::RULES, frames::RULES, streams::RULES, ids::RULES, parameters::RULES]
-        .into_iter()
-        .flatten()
+    let packets = [datagrams::RULES, packets::RULES, keys::RULES, handshake::RULES];
+    let frames = [frames::RULES, streams::RULES, ids::RULES, parameters::RULES];
+    packets.into_iter().chain(frames).flatten()
 }
 
 /// The rule with a name.

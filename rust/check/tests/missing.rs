@@ -122,3 +122,38 @@ fn acknowledgments_that_are_missing() {
     talk.all.remove(index + 1);
     talk.finds_nothing();
 }
+
+// RFC 9001, section 6.1: a packet that isn't in the capture may have confirmed the handshake, or acknowledged one with
+// the keys.
+#[test]
+fn what_permits_a_key_update() {
+    let mut talk = Talk::new();
+    let hello = talk.client_hello();
+    talk.send(Client, Initial, &hello).server_flight().client_flight();
+    let index = talk.next();
+    talk.short(Server, HANDSHAKE_DONE).made.updates = [1, 0];
+    talk.short(Client, &talk::all_to(0)).made.updates = [1, 1];
+    talk.later().finds_nothing();
+    talk.all.remove(index);
+    talk.is_silent("early-update", Need::PeerPackets);
+
+    let mut talk = Talk::open();
+    talk.made.updates = [1, 0];
+    talk.short(Client, PING).made.updates = [1, 1];
+    let index = talk.short(Server, PING).next();
+    let last = talk.made.numbers[0][2] - 1;
+    talk.short(Server, &talk::all_to(last)).made.updates = [2, 1];
+    let last = talk.made.numbers[1][2] - 1;
+    talk.short(Client, &talk::all_to(last)).made.updates = [2, 2];
+    talk.later().finds_nothing();
+    talk.all.remove(index);
+    talk.is_silent("second-update", Need::PeerPackets);
+}
+
+// RFC 9000, section 19.20: so may one that ended the handshake.
+#[test]
+fn what_permits_handshake_done() {
+    let mut talk = Talk::open();
+    talk.later().all.remove(2);
+    talk.is_silent("early-done", Need::PeerPackets);
+}

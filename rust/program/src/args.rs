@@ -331,11 +331,15 @@ fn choice<T: Copy>(option: &Known, word: &str, all: &[(&str, T)]) -> Result<T, S
     })
 }
 
+// A longer word isn't a name with a typing error.
+const MOST_LETTERS: usize = 64;
+
 // A suggestion, as the end of a sentence: a word that begins so, or the nearest one.
 pub fn nearest<'a>(word: &str, words: impl IntoIterator<Item = &'a str> + Clone) -> String {
     let mut all = words.clone().into_iter();
     let longer = all.find(|other| word.trim_matches('-').len() > 1 && other.starts_with(word));
-    let near = words.into_iter().map(|other| (changes(word, other), other)).min();
+    let near =
+        words.into_iter().filter(|_| word.len() <= MOST_LETTERS).map(|other| (changes(word, other), other)).min();
     let near = near.filter(|(changes, _)| *changes <= 1 + word.len() / 4).map(|(_, other)| other);
     longer.or(near).map_or(String::new(), |other| format!("; did you mean {other}?"))
 }

@@ -1,12 +1,11 @@
 //! Frames by themselves, and those that name no stream and no id.
 
-use super::packets::is_to_retry;
 use crate::about::{About, Faulty, Held, name_of};
 use crate::claim::Claim;
-use crate::rule::{Broken, Check, Checked, History, Need, Rule, Section};
+use crate::rule::{Broken, Check, Checked, History, Need, Rule, Section, Types};
 use quic_wire::Side;
 use quic_wire::datagram::HeaderKind;
-use quic_wire::frame::Frame;
+use quic_wire::frame::{ApplicationClose, Close, ConnectionClose, Frame};
 use quic_wire::ids::{MIN_INITIAL_SIZE, SpaceId};
 use quic_wire::permitted::Forbidden;
 use quic_wire_capture::opened::Opened;
@@ -15,6 +14,9 @@ use quic_wire_capture::opened::Opened;
 const UNKNOWN: &str = "invalid frame ID";
 const LONG_TYPE: &str = "frame type not in shortest form";
 const MALFORMED: &str = "malformed";
+
+// The error code of a CONNECTION_CLOSE that stands for one of the application (RFC 9000, section 20.1).
+const APPLICATION_ERROR: u64 = 0x0c;
 
 pub(super) static RULES: &[Rule] = &[
     Rule::must("empty-payload", "12.4", "A packet has at least a frame.", Check::Empty(empty_payload)),
@@ -36,21 +38,21 @@ pub(super) static RULES: &[Rule] = &[
         "frame-in-packet",
         "12.4",
         "A packet carries only frames that table 3 permits for its type.",
-        Check::Frame(in_packet),
+        Check::Forbidden(in_packet),
     ),
-    Rule::must("frame-sender", "19", "Only servers send NEW_TOKEN and HANDSHAKE_DONE.", Check::Frame(frame_sender)),
+    Rule::must("frame-sender", "19", "Only servers send NEW_TOKEN and HANDSHAKE_DONE.", Check::Forbidden(frame_sender)),
     Rule::must(
         "ack-unsent",
         "13.1",
         "An ACK acknowledges only packet numbers that were sent.",
-        Check::Frame(ack_unsent),
+        Check::Frame(Types::ACK, ack_unsent),
     )
     .with(History::Whole, &[Need::Begin, Need::Proof]),
     Rule::must(
         "datagram-size",
         "3",
         "A DATAGRAM needs the receiver's max_datagram_frame_size, and has at most so many bytes.",
-        Check::Frame(datagram_size),
+        Check::Frame(Types::DATAGRAM, datagram_size),
     )
     .of(9221)
     .with(History::Before, &[Need::PeerParameters, Need::OneRtt]),
@@ -58,45 +60,48 @@ pub(super) static RULES: &[Rule] = &[
         "path-response",
         "19.18",
         "A PATH_RESPONSE has the data of a PATH_CHALLENGE of the peer.",
-        Check::Frame(path_response),
+        Check::Frame(Types::PATH_RESPONSE, path_response),
     )
     .with(History::Whole, &[Need::Begin, Need::PeerPackets, Need::OwnPackets]),
     Rule::must(
         "response-twice",
         "8.2.2",
         "A PATH_CHALLENGE is answered by at most one PATH_RESPONSE.",
-        Check::Frame(response_twice),
+        Check::Frame(Types::PATH_RESPONSE, response_twice),
     )
     .with(History::Whole, &[Need::Begin, Need::PeerPackets, Need::OwnPackets]),
     Rule::must(
         "response-path",
         "8.2.2",
         "A server sends PATH_RESPONSE to the address from which the PATH_CHALLENGE came.",
-        Check::Frame(response_path),
+        Check::Frame(Types::PATH_RESPONSE, response_path),
     )
     .with(History::Before, &[]),
-    Rule::must("challenge-data", "8.2.1", "Each PATH_CHALLENGE has data of its own.", Check::Frame(challenge_data))
-        .with(History::Before, &[]),
     Rule::must(
-        "update-answer",
-        "6.2",
-        "A packet that acknowledges one with new keys has new keys.",
-        Check::Frame(update_answer),
+        "challenge-data",
+        "8.2.1",
+        "Each PATH_CHALLENGE has data of its own.",
+        Check::Frame(Types::PATH_CHALLENGE, challenge_data),
     )
-    .of(9001)
-    .with(History::Before, &[Need::Begin]),
+    .with(History::Before, &[]),
     Rule::must(
-        "retry-hello",
-        "17.2.5.3",
-        "After a Retry a client sends the same handshake message as before.",
-        Check::Frame(retry_hello),
+        "close-reason",
+        "10.2.3",
+        "A CONNECTION_CLOSE with APPLICATION_ERROR in an Initial or Handshake packet has an empty reason phrase.",
+        Check::Frame(Types::CLOSE, close_reason),
+    ),
+    Rule::must(
+        "reason-text",
+        "19.19",
+        "The reason phrase of a CONNECTION_CLOSE is UTF-8.",
+        Check::Frame(Types::CLOSE, reason_text),
     )
-    .with(History::Before, &[Need::Begin]),
+    .should(),
     Rule::must(
         "path-size",
         "8.2.1",
         "A datagram with a PATH_CHALLENGE or PATH_RESPONSE has at least 1200 bytes, if the address is validated.",
-        Check::Frame(path_size),
+        Check::Frame(Types::PATHS, path_size),
     )
     .with(History::Before, &[Need::ValidAddress]),
 ];
@@ -170,8 +175,8 @@ fn fields(_: &About<'_>, _: &Opened<'_>, faulty: &Faulty<'_>) -> Checked {
     Broken::new(seen, "a whole frame, with fields in range").by_section(section).in_payload(at).found()
 }
 
-fn in_packet(_: &About<'_>, opened: &Opened<'_>, held: &Held<'_>) -> Checked {
-    if held.permitted != Err(Forbidden::Packet) {
+fn in_packet(opened: &Opened<'_>, held: &Held<'_>, why: Forbidden) -> Checked {
+    if why != Forbidden::Packet {
         return Ok(None);
     }
     let (section, name) = match opened.kind() {
@@ -184,8 +189,8 @@ fn in_packet(_: &About<'_>, opened: &Opened<'_>, held: &Held<'_>) -> Checked {
     Broken::new(seen, "a frame that table 3 permits there").by(section).in_payload(held.range.start).found()
 }
 
-fn frame_sender(_: &About<'_>, _: &Opened<'_>, held: &Held<'_>) -> Checked {
-    if held.permitted != Err(Forbidden::Sender) {
+fn frame_sender(_: &Opened<'_>, held: &Held<'_>, why: Forbidden) -> Checked {
+    if why != Forbidden::Sender {
         return Ok(None);
     }
     let seen = format!("{} from a client", name_of(held.ty));
@@ -197,10 +202,11 @@ fn ack_unsent(about: &About<'_>, opened: &Opened<'_>, held: &Held<'_>) -> Checke
     let Frame::Ack(ack) = held.frame else { return Ok(None) };
     let (space, number) = (opened.space(), ack.largest());
     let largest = about.peer().largest(space);
-    if held.permitted.is_err() || largest.is_some_and(|largest| number <= largest) {
+    if largest.is_some_and(|largest| number <= largest) {
         return Ok(None);
     }
-    let most = largest.map_or("none: nothing was sent".into(), |one| format!("at most {one}, which was sent"));
+    let most =
+        largest.map_or("none: nothing was sent".into(), |one| format!("at most {one}, the largest that was sent"));
     let claim = Claim::Unsent { space, number, by: opened.number() };
     Broken::new(format!("an ACK of packet number {number}"), most).in_payload(held.range.start).if_still(claim).found()
 }
@@ -222,7 +228,7 @@ fn datagram_size(about: &About<'_>, opened: &Opened<'_>, held: &Held<'_>) -> Che
 
 fn path_response(about: &About<'_>, _: &Opened<'_>, held: &Held<'_>) -> Checked {
     let Frame::PathResponse(data) = held.frame else { return Ok(None) };
-    if held.permitted.is_err() || about.peer_half().challenges.contains_key(data) {
+    if about.peer_half().challenges.contains_key(data) {
         return Ok(None);
     }
     let seen = format!("a PATH_RESPONSE with the data {data:016x}");
@@ -234,7 +240,7 @@ fn path_response(about: &About<'_>, _: &Opened<'_>, held: &Held<'_>) -> Checked 
 
 fn response_twice(about: &About<'_>, _: &Opened<'_>, held: &Held<'_>) -> Checked {
     let Frame::PathResponse(data) = held.frame else { return Ok(None) };
-    if held.permitted.is_err() || !about.own_half().responses.contains(data) {
+    if !about.own_half().responses.contains(data) {
         return Ok(None);
     }
     let seen = format!("a second PATH_RESPONSE with the data {data:016x}");
@@ -253,7 +259,7 @@ fn response_path(about: &About<'_>, _: &Opened<'_>, held: &Held<'_>) -> Checked 
 
 fn challenge_data(about: &About<'_>, _: &Opened<'_>, held: &Held<'_>) -> Checked {
     let Frame::PathChallenge(data) = held.frame else { return Ok(None) };
-    if held.permitted.is_err() || !about.own_half().challenges.contains_key(data) {
+    if !about.own_half().challenges.contains_key(data) {
         return Ok(None);
     }
     Broken::new(format!("a second PATH_CHALLENGE with the data {data:016x}"), "other data")
@@ -261,46 +267,37 @@ fn challenge_data(about: &About<'_>, _: &Opened<'_>, held: &Held<'_>) -> Checked
         .found()
 }
 
-fn update_answer(about: &About<'_>, opened: &Opened<'_>, held: &Held<'_>) -> Checked {
-    let Frame::Ack(ack) = held.frame else { return Ok(None) };
-    let newer = about.peer_half().phase.filter(|phase| phase.updates > opened.updates());
-    let Some(phase) = newer.filter(|_| opened.kind() == HeaderKind::Short) else { return Ok(None) };
-    if !ack.iter().any(|range| range.contains(&phase.first)) {
+fn close_reason(_: &About<'_>, opened: &Opened<'_>, held: &Held<'_>) -> Checked {
+    let Frame::Close(Close::Connection(close)) = held.frame else { return Ok(None) };
+    let is_converted = opened.space() != SpaceId::Data && u64::from(close.error_code) == APPLICATION_ERROR;
+    if !is_converted || close.reason.is_empty() {
         return Ok(None);
     }
-    Broken::new(format!("old keys, and an ACK of number {}, which has new ones", phase.first), "new keys")
+    Broken::new(format!("APPLICATION_ERROR with a reason phrase of {} bytes", close.reason.len()), "an empty one")
         .in_payload(held.range.start)
         .found()
 }
 
-fn retry_hello(about: &About<'_>, opened: &Opened<'_>, held: &Held<'_>) -> Checked {
-    let Frame::Crypto(crypto) = held.frame else { return Ok(None) };
-    if opened.kind() != HeaderKind::Initial || !is_to_retry(about, opened) {
+fn reason_text(_: &About<'_>, _: &Opened<'_>, held: &Held<'_>) -> Checked {
+    let Frame::Close(
+        Close::Connection(ConnectionClose { reason, .. }) | Close::Application(ApplicationClose { reason, .. }),
+    ) = held.frame
+    else {
         return Ok(None);
-    }
-    let same = |(offset, bytes): &(u64, Vec<u8>)| {
-        let begin = crypto.offset.max(*offset);
-        let [one, two] = [(crypto.offset, crypto.bytes), (*offset, &bytes[..])]
-            .map(|(offset, bytes)| bytes.get((begin - offset) as usize..).unwrap_or_default());
-        let pairs = one.iter().zip(two);
-        pairs.into_iter().all(|(one, two)| one == two)
     };
-    if about.history.hello.iter().all(same) {
-        return Ok(None);
-    }
-    Broken::new("CRYPTO data that differ from those before the Retry", "the same data")
-        .in_payload(held.range.start)
-        .found()
+    let Err(error) = std::str::from_utf8(reason) else { return Ok(None) };
+    let seen = format!("a reason phrase that isn't UTF-8 from byte {} of {} on", error.valid_up_to(), reason.len());
+    Broken::new(seen, "UTF-8").in_payload(held.range.end - reason.len() + error.valid_up_to()).found()
 }
 
-fn path_size(about: &About<'_>, opened: &Opened<'_>, held: &Held<'_>) -> Checked {
+fn path_size(about: &About<'_>, _: &Opened<'_>, held: &Held<'_>) -> Checked {
     let (section, name) = match held.frame {
         Frame::PathChallenge(_) => ("8.2.1", "PATH_CHALLENGE"),
         Frame::PathResponse(_) => ("8.2.2", "PATH_RESPONSE"),
         _ => return Ok(None),
     };
     let size = about.size();
-    if opened.space() != SpaceId::Data || size >= usize::from(MIN_INITIAL_SIZE) {
+    if size >= usize::from(MIN_INITIAL_SIZE) {
         return Ok(None);
     }
     // A server may send so little to an address that isn't validated. A client needn't validate its server's.

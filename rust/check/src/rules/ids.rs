@@ -2,7 +2,7 @@
 
 use crate::about::{About, Held, id_text};
 use crate::claim::{Claim, active_ids, is_given, last_id};
-use crate::rule::{Broken, Check, Checked, History, Need, Rule};
+use crate::rule::{Broken, Check, Checked, History, Need, Rule, Types};
 use quic_wire::ResetToken;
 use quic_wire::frame::{Frame, NewConnectionId};
 use quic_wire_capture::opened::Opened;
@@ -12,23 +12,23 @@ pub(super) static RULES: &[Rule] = &[
         "id-without-bytes",
         "19.15",
         "A side whose first id is empty issues no further ones.",
-        Check::Frame(id_without_bytes),
+        Check::Frame(Types::NEW_CONNECTION_ID, id_without_bytes),
     )
     .with(History::Before, &[Need::Begin]),
     Rule::must(
         "id-changed",
         "19.15",
         "An id and its reset token don't change for a sequence number.",
-        Check::Frame(id_changed),
+        Check::Frame(Types::NEW_CONNECTION_ID, id_changed),
     )
     .with(History::Before, &[Need::Begin]),
-    Rule::must("id-twice", "19.15", "An id has one sequence number.", Check::Frame(id_twice))
+    Rule::must("id-twice", "19.15", "An id has one sequence number.", Check::Frame(Types::NEW_CONNECTION_ID, id_twice))
         .with(History::Before, &[Need::Begin]),
     Rule::must(
         "id-count",
         "5.1.1",
         "A side has at most as many active ids as its peer's active_connection_id_limit says.",
-        Check::Frame(id_count),
+        Check::Frame(Types::NEW_CONNECTION_ID, id_count),
     )
     .with(
         History::Whole,
@@ -38,11 +38,16 @@ pub(super) static RULES: &[Rule] = &[
         "id-sequence",
         "5.1.1",
         "The sequence number of a new id is one greater than that before.",
-        Check::Frame(id_sequence),
+        Check::Frame(Types::NEW_CONNECTION_ID, id_sequence),
     )
     .with(History::Whole, &[Need::Begin, Need::OwnPackets, Need::OwnNumbers, Need::NoEarlyData]),
-    Rule::must("token-twice", "10.3", "A reset token belongs to one id.", Check::Frame(token_twice))
-        .with(History::Before, &[]),
+    Rule::must(
+        "token-twice",
+        "10.3",
+        "A reset token belongs to one id.",
+        Check::Frame(Types::NEW_CONNECTION_ID, token_twice),
+    )
+    .with(History::Before, &[]),
     Rule::must(
         "retire-prior",
         "5.1.2",
@@ -57,35 +62,35 @@ pub(super) static RULES: &[Rule] = &[
         "retire-without-bytes",
         "19.16",
         "A side whose peer's first id is empty sends no RETIRE_CONNECTION_ID.",
-        Check::Frame(retire_without_bytes),
+        Check::Frame(Types::RETIRE_CONNECTION_ID, retire_without_bytes),
     )
     .with(History::Before, &[Need::Begin]),
     Rule::must(
         "retire-unknown",
         "19.16",
         "RETIRE_CONNECTION_ID names a sequence number that the peer issued.",
-        Check::Frame(retire_unknown),
+        Check::Frame(Types::RETIRE_CONNECTION_ID, retire_unknown),
     )
     .with(History::Whole, &[Need::Begin, Need::PeerPackets, Need::OwnPackets]),
     Rule::must(
         "retire-own",
         "19.16",
         "RETIRE_CONNECTION_ID names another id than that to which its packet goes.",
-        Check::Frame(retire_own),
+        Check::Frame(Types::RETIRE_CONNECTION_ID, retire_own),
     )
     .with(History::Before, &[Need::Begin]),
 ];
 
 fn new_id<'a>(held: &Held<'a>) -> Option<&'a NewConnectionId> {
     match held.frame {
-        Frame::NewConnectionId(new) if held.permitted.is_ok() => Some(new),
+        Frame::NewConnectionId(new) => Some(new),
         _ => None,
     }
 }
 
 fn retired(held: &Held<'_>) -> Option<u64> {
     match held.frame {
-        Frame::RetireConnectionId { sequence } if held.permitted.is_ok() => Some(*sequence),
+        Frame::RetireConnectionId { sequence } => Some(*sequence),
         _ => None,
     }
 }
@@ -105,13 +110,14 @@ fn id_changed(about: &About<'_>, _: &Opened<'_>, held: &Held<'_>) -> Checked {
     if *id == new.id && token.is_none_or(|token| *token == new.reset_token) {
         return Ok(None);
     }
-    let what = if *id == new.id { "another reset token" } else { "another id" };
-    Broken::new(
-        format!("{what} for the sequence number {}", new.sequence),
-        format!("the same as before, {}", id_text(id)),
-    )
-    .in_payload(held.range.start)
-    .found()
+    let sequence = new.sequence;
+    let broken = if *id == new.id {
+        Broken::new(format!("another reset token for sequence number {sequence}"), "the token of before")
+    } else {
+        let seen = format!("{} for sequence number {sequence}", id_text(&new.id));
+        Broken::new(seen, format!("{}, as before", id_text(id)))
+    };
+    broken.in_payload(held.range.start).found()
 }
 
 fn id_twice(about: &About<'_>, _: &Opened<'_>, held: &Held<'_>) -> Checked {
@@ -120,8 +126,8 @@ fn id_twice(about: &About<'_>, _: &Opened<'_>, held: &Held<'_>) -> Checked {
     else {
         return Ok(None);
     };
-    let seen = format!("{} with the sequence number {}", id_text(&new.id), new.sequence);
-    Broken::new(seen, format!("the sequence number {other}")).in_payload(held.range.start).found()
+    let seen = format!("{} for sequence number {}", id_text(&new.id), new.sequence);
+    Broken::new(seen, format!("sequence number {other}, as before")).in_payload(held.range.start).found()
 }
 
 fn id_count(about: &About<'_>, _: &Opened<'_>, held: &Held<'_>) -> Checked {
@@ -132,7 +138,7 @@ fn id_count(about: &About<'_>, _: &Opened<'_>, held: &Held<'_>) -> Checked {
     if active <= most {
         return Ok(None);
     }
-    Broken::new(format!("{active} active ids"), format!("at most {most}, the peer's limit"))
+    Broken::new(format!("{active} active ids"), format!("at most {most}, the peer's active_connection_id_limit"))
         .in_payload(held.range.start)
         .if_still(Claim::Ids)
         .found()
@@ -144,7 +150,7 @@ fn id_sequence(about: &About<'_>, _: &Opened<'_>, held: &Held<'_>) -> Checked {
     if is_given(about.connection, about.history, about.sender, new.sequence - 1) {
         return Ok(None);
     }
-    Broken::new(format!("the sequence number {}", new.sequence), format!("{} before it", new.sequence - 1))
+    Broken::new(format!("sequence number {}, without {}", new.sequence, new.sequence - 1), "the next one")
         .in_payload(held.range.start)
         .if_still(Claim::Gap(new.sequence))
         .found()
@@ -175,6 +181,9 @@ fn retire_prior(about: &About<'_>, opened: &Opened<'_>) -> Checked {
 }
 
 fn retired_id(about: &About<'_>, opened: &Opened<'_>) -> Checked {
+    if about.peer_half().retired.is_empty() {
+        return Ok(None);
+    }
     let Some(sequence) = sequence_to(about, opened) else { return Ok(None) };
     let by = about.peer_half().retired.get(&sequence).filter(|by| **by < opened.number());
     let Some(by) = by else { return Ok(None) };
@@ -200,8 +209,9 @@ fn retire_unknown(about: &About<'_>, _: &Opened<'_>, held: &Held<'_>) -> Checked
     if last.is_some_and(|last| sequence <= last) {
         return Ok(None);
     }
-    let most = last.map_or("none: the peer issued none".into(), |last| format!("at most {last}"));
-    Broken::new(format!("the sequence number {sequence}"), most)
+    let most =
+        last.map_or("none: the peer issued none".into(), |last| format!("at most {last}, the last that was issued"));
+    Broken::new(format!("RETIRE_CONNECTION_ID of sequence number {sequence}"), most)
         .in_payload(held.range.start)
         .if_still(Claim::Retired(sequence))
         .found()
@@ -213,7 +223,7 @@ fn retire_own(about: &About<'_>, opened: &Opened<'_>, held: &Held<'_>) -> Checke
     if !about.peer().ids().any(|(one, id, _)| one == sequence && is_own(id)) {
         return Ok(None);
     }
-    Broken::new(format!("the sequence number {sequence}, of the id to which this packet goes"), "that of another id")
+    Broken::new(format!("RETIRE_CONNECTION_ID of the id to which this packet goes, {sequence}"), "that of another id")
         .in_payload(held.range.start)
         .found()
 }

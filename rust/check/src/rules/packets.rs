@@ -1,16 +1,14 @@
 //! Headers, packet numbers, and the order of packets.
 
 use crate::about::{About, id_text};
-use crate::claim::{Claim, GRACE, distance, is_issued};
-use crate::history::{Moment, Phase};
-use crate::rule::{Broken, Check, Checked, History, Need, Rule, Section};
+use crate::claim::{Claim, GRACE, is_issued};
+use crate::history::Token;
+use crate::rule::{Broken, Check, Checked, History, Need, Rule};
 use quic_wire::datagram::{HeaderKind, PacketRef};
 use quic_wire::ids::SpaceId;
 use quic_wire::{ConnectionId, Side};
 use quic_wire_capture::end::Sent;
 use quic_wire_capture::opened::Opened;
-
-const SECOND: u64 = 1_000_000_000;
 
 /// The least bytes of the id that a client chooses for the server (RFC 9000, section 7.2).
 const LEAST_FIRST_ID: usize = 8;
@@ -48,34 +46,18 @@ pub(super) static RULES: &[Rule] = &[
     .should()
     .with(History::Before, &[Need::Begin]),
     Rule::must(
-        "discarded-keys",
-        "4.9",
-        "A side sends no Initial and no Handshake packets once it has to discard their keys.",
-        Check::Packet(discarded_keys),
+        "source-after-retry",
+        "17.2.5.2",
+        "After a Retry a client keeps its Source Connection ID.",
+        Check::Done(source_after_retry),
     )
-    .of(9001)
-    .with(History::Before, &[Need::Begin, Need::Order, Need::Time]),
-    Rule::must(
-        "zero-rtt-late",
-        "17.2.3",
-        "A client sends no 0-RTT packet after a 1-RTT packet.",
-        Check::Packet(zero_rtt_late),
-    )
-    .with(History::Before, &[]),
-    Rule::must(
-        "old-keys",
-        "6.4",
-        "A packet has no older keys than one with a smaller number.",
-        Check::Packet(old_keys),
-    )
-    .of(9001)
-    .with(History::Before, &[]),
+    .with(History::Before, &[Need::Begin]),
     Rule::must("number-reuse", "12.3", "A packet number is used once in its number space.", Check::Again(number_reuse))
         .with(History::Before, &[]),
     Rule::must(
         "number-length",
         "17.1",
-        "A packet number has enough bytes for more than twice its distance from the largest acknowledged one.",
+        "A packet number has enough bytes for twice its distance from the largest acknowledged one, or for all of it.",
         Check::Packet(number_length),
     )
     .with(History::Whole, &[Need::Begin, Need::PeerPackets, Need::OwnPackets, Need::Order, Need::End]),
@@ -102,6 +84,13 @@ pub(super) static RULES: &[Rule] = &[
     )
     .with(History::Before, &[Need::Begin]),
     Rule::must(
+        "token-kept",
+        "8.1.3",
+        "A client that has a token puts one into all of its Initial packets.",
+        Check::Packet(token_kept),
+    )
+    .with(History::Before, &[Need::Begin]),
+    Rule::must(
         "retry-version",
         "4.1",
         "After a Retry the client goes on with the Retry's version.",
@@ -123,7 +112,8 @@ fn number_at(opened: &Opened<'_>) -> usize {
     opened.payload_offset() - opened.unprotected().number_len
 }
 
-fn begin(opened: &Opened<'_>) -> usize {
+/// Where a packet begins in its datagram.
+pub(super) fn begin(opened: &Opened<'_>) -> usize {
     opened.packet().place().range().start
 }
 
@@ -169,76 +159,53 @@ fn first_id(about: &About<'_>, opened: &Opened<'_>) -> Checked {
         return Ok(None);
     }
     let at = begin(opened) + packet.header().dst_cid_pos().start;
-    Broken::new(format!("an id of {len} bytes"), "8 bytes or more").at(at).found()
+    Broken::new(format!("a Destination Connection ID of {len} bytes"), "8 bytes or more").at(at).found()
 }
 
 fn destination_id(about: &About<'_>, opened: &Opened<'_>) -> Checked {
     let (packet, connection) = (opened.packet(), about.connection);
+    let sources = &about.peer_half().sources;
+    if packet.header().is_short() || sources.is_empty() {
+        return Ok(None);
+    }
     let Ok(id) = ConnectionId::try_from(packet.dst_cid()) else { return Ok(None) };
     let of_client = [Some(connection.first_dcid()), connection.retry_id()];
     let is_of_client = about.sender == Side::Client && of_client.contains(&Some(&id));
-    let sources = &about.peer_half().sources;
-    if packet.header().is_short() || is_of_client || sources.contains(&id) || sources.is_empty() {
-        return Ok(None);
-    }
-    if is_issued(connection, !about.sender, &id) {
+    if is_of_client || sources.contains(&id) || is_issued(connection, !about.sender, &id) {
         return Ok(None);
     }
     let expected = sources.first().map_or_else(String::new, id_text);
     let at = begin(opened) + packet.header().dst_cid_pos().start;
-    Broken::new(id_text(&id), expected).at(at).if_still(Claim::Destination(id)).found()
-}
-
-// A Version Negotiation lets a client begin anew.
-fn source_id(about: &About<'_>, opened: &Opened<'_>) -> Checked {
-    let header = opened.packet().header();
-    let Some(first) = about.own_half().sources.first().filter(|_| !header.is_short()) else { return Ok(None) };
-    let is_anew = opened.kind() == HeaderKind::Initial && header.version() != about.connection.version();
-    // A server that keeps no state closes each time from another id.
-    if *opened.packet().src_cid() == **first || is_anew || about.current.has_close {
-        return Ok(None);
-    }
-    let id = ConnectionId::try_from(opened.packet().src_cid()).unwrap_or_default();
-    let at = begin(opened) + header.src_cid_pos().start;
-    let broken = Broken::new(format!("{} as the source", id_text(&id)), id_text(first)).at(at);
-    let is_after_retry = about.sender == Side::Client && about.connection.retry_id().is_some();
-    if is_after_retry { broken.by("17.2.5.2").found() } else { broken.found() }
-}
-
-fn discarded_keys(about: &About<'_>, opened: &Opened<'_>) -> Checked {
-    let Some(Moment { time, record }) = about.own_half().discarded(opened.space()) else { return Ok(None) };
-    let is_new = about.end().largest(opened.space()).is_none_or(|largest| opened.number() > largest);
-    if !is_new || record == about.datagram.record {
-        return Ok(None);
-    }
-    // Where it was sent, the order of the records is that in which it was.
-    let least = if about.is_at_sender() { GRACE } else { SECOND };
-    if about.datagram.time < time.saturating_add(least) {
-        return Err(Need::Time);
-    }
-    let (number, seen) = match (opened.space(), about.sender) {
-        (SpaceId::Initial, Side::Client) => ("4.9.1", "an Initial packet after the Handshake packet of record"),
-        (SpaceId::Initial, _) => ("4.9.1", "an Initial packet after the ACK of a Handshake packet in record"),
-        (_, Side::Client) => ("4.9.2", "a Handshake packet after the ACK of HANDSHAKE_DONE in record"),
-        (_, _) => ("4.9.2", "a Handshake packet after the HANDSHAKE_DONE of record"),
-    };
-    Broken::new(format!("{seen} {record}"), "none").by_section(Section { rfc: 9001, number }).at(begin(opened)).found()
-}
-
-fn zero_rtt_late(about: &About<'_>, opened: &Opened<'_>) -> Checked {
-    let least = about.own_half().least_short.filter(|least| *least < opened.number());
-    let Some(least) = least.filter(|_| opened.kind() == HeaderKind::ZeroRtt) else { return Ok(None) };
-    Broken::new(format!("0-RTT packet {} after 1-RTT packet {least}", opened.number()), "1-RTT packets")
-        .at(begin(opened))
+    Broken::new(format!("{} as the Destination Connection ID", id_text(&id)), expected)
+        .at(at)
+        .if_still(Claim::Destination(id))
         .found()
 }
 
-fn old_keys(about: &About<'_>, opened: &Opened<'_>) -> Checked {
-    let is_older = |phase: &Phase| opened.updates() < phase.updates && opened.number() > phase.first;
-    let phase = about.own_half().phase.filter(|_| opened.kind() == HeaderKind::Short);
-    let Some(phase) = phase.filter(is_older) else { return Ok(None) };
-    let seen = format!("number {} with keys of before the update at number {}", opened.number(), phase.first);
-    Broken::new(seen, "the new keys").at(begin(opened)).found()
+// A Version Negotiation lets a client begin anew.
+fn other_source(about: &About<'_>, opened: &Opened<'_>) -> Option<Broken> {
+    let header = opened.packet().header();
+    let first = about.own_half().sources.first().filter(|_| !header.is_short())?;
+    let is_anew = opened.kind() == HeaderKind::Initial && header.version() != about.connection.version();
+    // A server that keeps no state closes each time from another id.
+    if *opened.packet().src_cid() == **first || is_anew || about.current.has_close {
+        return None;
+    }
+    let id = ConnectionId::try_from(opened.packet().src_cid()).unwrap_or_default();
+    let seen = format!("{} as the Source Connection ID", id_text(&id));
+    Some(Broken::new(seen, id_text(first)).at(begin(opened) + header.src_cid_pos().start))
+}
+
+fn is_after_retry(about: &About<'_>) -> bool {
+    about.sender == Side::Client && about.connection.retry_id().is_some()
+}
+
+fn source_id(about: &About<'_>, opened: &Opened<'_>) -> Checked {
+    Ok(other_source(about, opened).filter(|_| !is_after_retry(about)))
+}
+
+fn source_after_retry(about: &About<'_>, opened: &Opened<'_>) -> Checked {
+    Ok(other_source(about, opened).filter(|_| is_after_retry(about)))
 }
 
 // After a Version Negotiation a client begins anew with another version, perhaps with the same ids.
@@ -248,8 +215,8 @@ fn number_reuse(about: &About<'_>, opened: &Opened<'_>, before: &Sent) -> Checke
     if is_anew || opened.tag() == before.tag {
         return Ok(None);
     }
-    let seen = format!("number {} again, with other contents than in record {}", opened.number(), before.record);
-    let broken = Broken::new(seen, "a number that wasn't used before").at(number_at(opened));
+    let seen = format!("packet number {} again, with other contents than in record {}", opened.number(), before.record);
+    let broken = Broken::new(seen, "a packet number that wasn't used before").at(number_at(opened));
     let is_after_retry = opened.kind() == HeaderKind::Initial && is_to_retry(about, opened);
     if is_after_retry { broken.by("17.2.5.3").found() } else { broken.found() }
 }
@@ -262,14 +229,15 @@ pub(super) fn is_to_retry(about: &About<'_>, opened: &Opened<'_>) -> bool {
 
 fn number_length(about: &About<'_>, opened: &Opened<'_>) -> Checked {
     let (space, number, len) = (opened.space(), opened.number(), opened.unprotected().number_len);
-    let most = 1u64 << (8 * len - 1);
-    if distance(about.connection, about.sender, space, number) <= most {
+    let (acknowledged, range) = (about.end().acknowledged(space), 1u64 << (8 * len));
+    // Before an acknowledgment the number only has to be whole.
+    let is_enough = acknowledged.map_or(number < range, |largest| number.saturating_sub(largest) <= range / 2);
+    if is_enough {
         return Ok(None);
     }
-    let acknowledged = about.end().acknowledged(space);
     let largest = acknowledged.map_or("nothing is acknowledged".into(), |one| format!("{one} is acknowledged"));
-    let seen = format!("a number {number} of {len} bytes, while {largest}");
-    let claim = Claim::Number { space, number, most };
+    let seen = format!("packet number {number} in {len} bytes, while {largest}");
+    let claim = Claim::Number { space, number, most: range / 2 };
     Broken::new(seen, format!("{} bytes or more", len + 1)).at(number_at(opened)).if_still(claim).found()
 }
 
@@ -308,23 +276,33 @@ fn retry_token(_: &About<'_>, packet: &PacketRef<'_>) -> Checked {
     }
 }
 
+fn token_at(opened: &Opened<'_>) -> usize {
+    begin(opened) + opened.packet().header().token_pos().start
+}
+
 fn initial_token(about: &About<'_>, opened: &Opened<'_>) -> Checked {
-    let retry = about.history.retry.as_ref().filter(|_| is_to_retry(about, opened));
-    let Some(retry) = retry else { return Ok(None) };
-    let packet = opened.packet();
-    if opened.kind() != HeaderKind::Initial || *packet.token() == retry.token[..] {
-        return Ok(None);
-    }
-    let len = packet.token().len();
-    let seen = if len == 0 { "no token".into() } else { format!("another token, of {len} bytes") };
-    let at = begin(opened) + packet.header().token_pos().start;
-    Broken::new(seen, format!("the token of the Retry, {} bytes", retry.token.len())).at(at).found()
+    let retry = about.history.retry.filter(|_| opened.kind() == HeaderKind::Initial && is_to_retry(about, opened));
+    let given = Token::of(opened.packet().token());
+    let Some(token) = retry.map(|retry| retry.token).filter(|token| *token != given) else { return Ok(None) };
+    let seen = if given.len == 0 { "no token".into() } else { format!("another token, of {} bytes", given.len) };
+    Broken::new(seen, format!("the token of the Retry, {} bytes", token.len)).at(token_at(opened)).found()
+}
+
+// A client that begins anew with another version may have no token for that.
+fn token_kept(about: &About<'_>, opened: &Opened<'_>) -> Checked {
+    let is_initial = about.sender == Side::Client && opened.kind() == HeaderKind::Initial;
+    let version = opened.packet().header().version();
+    let is_later = |(of, number): &(u32, u64)| *of == version && *number < opened.number();
+    let first = about.history.first_token.filter(is_later).filter(|_| is_initial && opened.packet().token().is_empty());
+    // `initial-token` is about the Retry's.
+    let Some((_, number)) = first.filter(|_| !is_to_retry(about, opened)) else { return Ok(None) };
+    Broken::new("no token", format!("one, as in packet {number}")).at(token_at(opened)).found()
 }
 
 // Once the server has answered, versions may change again (RFC 9368).
 fn retry_version(about: &About<'_>, opened: &Opened<'_>) -> Checked {
     let is_next = is_to_retry(about, opened) && about.peer().first_scid().is_none();
-    let Some(retry) = about.history.retry.as_ref().filter(|_| is_next) else { return Ok(None) };
+    let Some(retry) = about.history.retry.filter(|_| is_next) else { return Ok(None) };
     let version = opened.packet().header().version();
     if opened.kind() != HeaderKind::Initial || version == retry.version {
         return Ok(None);
@@ -339,5 +317,5 @@ fn retry_id(about: &About<'_>, packet: &PacketRef<'_>) -> Checked {
         return Ok(None);
     }
     let at = packet.place().range().start + packet.header().src_cid_pos().start;
-    Broken::new("the client's own Destination Connection ID as the source", "another id").at(at).found()
+    Broken::new("the client's Destination Connection ID as the Source Connection ID", "another id").at(at).found()
 }

@@ -53,6 +53,13 @@ pub(super) static RULES: &[Rule] = &[
     )
     .of(9368)
     .with(History::Before, &[Need::Begin]),
+    Rule::must(
+        "chosen-available",
+        "3",
+        "A client's chosen version is one of its available versions.",
+        Check::List(chosen_available),
+    )
+    .of(9368),
 ];
 
 fn refused(_: &About<'_>, list: &[u8], refusal: &Refusal) -> Checked {
@@ -62,13 +69,24 @@ fn refused(_: &About<'_>, list: &[u8], refusal: &Refusal) -> Checked {
         return Ok(None);
     }
     let name = match (id, refusal.id) {
-        (Some(id), _) => format!("{id:?}"),
+        (Some(id), _) => snake(&format!("{id:?}")),
         (None, Some(number)) => format!("the parameter {number:#x}"),
         (None, None) => "a parameter".into(),
     };
     let section = if refusal.error == Error::Malformed { "7.4" } else { "18.2" };
     let seen = format!("{} in {name}, byte {} of the {} of the list", refusal.error, refusal.offset, list.len());
-    Broken::new(seen, "a list that can be read").by(section).found()
+    Broken::new(seen, "what RFC 9000 permits").by(section).found()
+}
+
+// The RFC's name of a parameter, of its name in CamelCase.
+fn snake(name: &str) -> String {
+    name.char_indices().fold(String::new(), |mut snake, (at, c)| {
+        if at > 0 && c.is_ascii_uppercase() {
+            snake.push('_');
+        }
+        snake.push(c.to_ascii_lowercase());
+        snake
+    })
 }
 
 // The value of version_information, if it is there.
@@ -93,7 +111,16 @@ fn chosen_version(about: &About<'_>, opened: &Opened<'_>, list: &[u8]) -> Checke
     if chosen == version || chosen == about.connection.version() {
         return Ok(None);
     }
-    Broken::new(format!("the chosen version {chosen:#x}"), format!("{version:#x}, the packet's")).found()
+    Broken::new(format!("the chosen version {chosen:#x}"), format!("{version:#x}, the version of the packet")).found()
+}
+
+fn chosen_available(about: &About<'_>, _: &Opened<'_>, list: &[u8]) -> Checked {
+    let Some((chosen, available)) = versions_of(list).and_then(versions::read) else { return Ok(None) };
+    let mut available = std::iter::successors(versions::split(available), |(_, others)| versions::split(others));
+    if about.sender == Side::Server || available.any(|(version, _)| version == chosen) {
+        return Ok(None);
+    }
+    Broken::new(format!("the chosen version {chosen:#x}, which isn't available"), "it among the available ones").found()
 }
 
 fn compared(name: &str, given: Option<&ConnectionId>, used: Option<&ConnectionId>) -> Option<Broken> {

@@ -5,6 +5,8 @@
 mod datagrams;
 #[path = "cases/frames.rs"]
 mod frames;
+#[path = "cases/handshake.rs"]
+mod handshake;
 #[path = "cases/ids.rs"]
 mod ids;
 #[path = "cases/keys.rs"]
@@ -100,7 +102,7 @@ impl Case {
 
 /// All of them.
 pub fn all() -> Vec<Case> {
-    let packets = [datagrams::all(), packets::all(), keys::all(), retry::all()];
+    let packets = [datagrams::all(), packets::all(), keys::all(), retry::all(), handshake::all()];
     let frames = [frames::all(), streams::all(), ids::all(), parameters::all()];
     packets.into_iter().chain(frames).flatten().collect()
 }

@@ -22,6 +22,8 @@ pub struct Talk {
     pub parameters: [TransportParameters; 2],
     /// Bytes of each side's list of parameters after these.
     pub more: [Vec<u8>; 2],
+    /// The ClientHello's legacy_session_id.
+    pub session_id: Vec<u8>,
 }
 
 impl Talk {
@@ -51,7 +53,13 @@ impl Talk {
             original_dst_cid: id(&made.original_id),
             ..limits
         };
-        Talk { made, all: Vec::new(), parameters: [client, server], more: [Vec::new(), Vec::new()] }
+        Talk {
+            made,
+            all: Vec::new(),
+            parameters: [client, server],
+            more: [Vec::new(), Vec::new()],
+            session_id: Vec::new(),
+        }
     }
 
     /// After its handshake: each side knows that its packets so far were received, except for the server's last one.
@@ -121,9 +129,15 @@ impl Talk {
 
     /// A payload with the ClientHello, for a datagram of 1,200 bytes or more.
     pub fn client_hello(&self) -> Vec<u8> {
-        let front = [&[3, 3][..], &self.made.random(), &[0, 0, 2, 0x13, 1, 1, 0]].concat();
+        padded(&crypto(0, &self.client_message()), 1200)
+    }
+
+    /// The ClientHello.
+    pub fn client_message(&self) -> Vec<u8> {
+        let session = [&[self.session_id.len() as u8][..], &self.session_id].concat();
+        let front = [&[3, 3][..], &self.made.random(), &session, &[0, 2, 0x13, 1, 1, 0]].concat();
         let list = self.list(Client);
-        padded(&crypto(0, &message(1, &front, &[VERSIONS, PROTOCOL, (PARAMETERS, &list)])), 1200)
+        message(1, &front, &[VERSIONS, PROTOCOL, (PARAMETERS, &list)])
     }
 
     /// The ServerHello.

@@ -37,11 +37,23 @@ impl<'s> Text<'s> {
             1 => String::new(),
             count => format!(", {count} times up to record {}", finding.last_record),
         };
-        let allowed = allowed.map_or(String::new(), |reason| format!(", allowed: {reason}"));
+        let allowed = allowed.map_or(String::new(), |reason| format!(", allowed: {}", printable(reason)));
         let connection = finding.connection;
         format!("{source} connection {connection} {sender} {kind}, {place}{again}\n")
             + &format!("    {rule}: {seen}; expected: {expected} ({section}){allowed}\n")
     }
+}
+
+// A name or a reason, in which control characters are escaped: a terminal would obey them.
+fn printable(text: &str) -> String {
+    text.chars().fold(String::new(), |mut shown, c| {
+        if c.is_control() {
+            shown.extend(c.escape_default())
+        } else {
+            shown.push(c)
+        }
+        shown
+    })
 }
 
 // A number of things.
@@ -74,7 +86,7 @@ impl Form for Text<'_> {
 
     fn capture(&mut self, name: &OsStr, whole: &Whole<'_>) {
         let Whole { report, capture, counts, rules, .. } = whole;
-        let name = name.to_string_lossy();
+        let name = printable(&name.to_string_lossy());
         let finding = |finding| self.finding(&name, finding, whole.reason(finding));
         let mut lines: String = report.findings.iter().map(finding).collect();
         let source = self.paint(Tone::Source, format!("{name}:"));

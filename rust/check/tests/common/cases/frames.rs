@@ -16,7 +16,42 @@ const AROUND_SHORT: usize = 1 + 5 + 1 + 16;
 const FULL: usize = 1200 - AROUND_SHORT;
 
 pub fn all() -> Vec<Case> {
-    [types(), fields(), permitted(), acks(), datagrams(), paths()].into_iter().flatten().collect()
+    [types(), fields(), permitted(), acks(), datagrams(), paths(), closes()].into_iter().flatten().collect()
+}
+
+fn closes() -> Vec<Case> {
+    vec![
+        broken(
+            ("close-reason", "handshake", "10.2.3"),
+            "A CONNECTION_CLOSE in a Handshake packet has the code APPLICATION_ERROR, and a reason phrase.",
+            |talk| closed(talk, b"\x1c\x0c\0\x03bye"),
+        ),
+        lawful(
+            ("close-reason", "empty", "10.2.3"),
+            "A CONNECTION_CLOSE in a Handshake packet has the code APPLICATION_ERROR, and no reason phrase.",
+            |talk| closed(talk, b"\x1c\x0c\0\0"),
+        ),
+        lawful(
+            ("close-reason", "internal", "10.2.3"),
+            "A CONNECTION_CLOSE in a Handshake packet has the code INTERNAL_ERROR, and a reason phrase.",
+            |talk| closed(talk, b"\x1c\x01\0\x03bye"),
+        ),
+        broken(("reason-text", "ff", "19.19"), "The reason phrase of a CONNECTION_CLOSE has the byte ff.", |talk| {
+            send(talk.handshake(), Client, Short, b"\x1d\0\x03b\xffe", At::Payload(0..6))
+        }),
+        lawful(
+            ("reason-text", "accent", "19.19"),
+            "The reason phrase of a CONNECTION_CLOSE has a letter with an accent, in two bytes.",
+            |talk| send(talk.handshake(), Client, Short, b"\x1d\0\x02\xc3\xa9", At::Payload(0..5)),
+        ),
+    ]
+}
+
+// The client closes with its Handshake packet.
+fn closed(talk: &mut Talk, frame: &[u8]) -> Spot {
+    let hello = talk.client_hello();
+    talk.send(Client, Initial, &hello).server_flight().client_flight();
+    send(talk, Client, Handshake, frame, At::Payload(0..frame.len()))
 }
 
 fn types() -> Vec<Case> {

@@ -1,4 +1,4 @@
-//! Of keys that are updated or discarded: rules of src/rules/packets.rs and src/rules/frames.rs.
+//! Of keys that are updated or discarded: rules of src/rules/keys.rs and src/rules/packets.rs.
 use super::{At, Case, Spot, broken, last, lawful, send, swap_last};
 use crate::common::Kept;
 use crate::made::{Client, Handshake, Initial, Server, Short, ZeroRtt};
@@ -7,7 +7,7 @@ use crate::talk::{PING, Talk, ack, all_to};
 const SECOND: u64 = 1_000_000_000;
 
 pub fn all() -> Vec<Case> {
-    [discarded(), early(), updated()].into_iter().flatten().collect()
+    [discarded(), early(), updated(), too_early(), too_often()].into_iter().flatten().collect()
 }
 
 fn discarded() -> Vec<Case> {
@@ -119,6 +119,115 @@ fn updated() -> Vec<Case> {
         )
         .of(9001),
     ]
+}
+
+fn too_early() -> Vec<Case> {
+    vec![
+        broken(
+            ("early-update", "client", "6.1"),
+            "The client updates its keys before HANDSHAKE_DONE and any ACK of its 1-RTT packets.",
+            |talk| {
+                half_open(talk).client_flight().made.updates = [1, 0];
+                let spot = send(talk, Client, Short, PING, At::Datagram(0));
+                talk.made.time += SECOND;
+                talk.made.updates = [1, 1];
+                talk.confirm().later();
+                spot
+            },
+        )
+        .of(9001),
+        broken(
+            ("early-update", "server", "6.1"),
+            "The server updates its keys before any Handshake packet of the client.",
+            |talk| {
+                half_open(talk).made.updates = [0, 1];
+                let spot = send(talk, Server, Short, PING, At::Datagram(0));
+                talk.made.time += SECOND;
+                talk.made.updates = [1, 1];
+                talk.client_flight().confirm().later();
+                spot
+            },
+        )
+        .of(9001),
+        lawful(
+            ("early-update", "acknowledged", "6.1"),
+            "The client updates its keys before HANDSHAKE_DONE, after an ACK of a 1-RTT packet.",
+            |talk| {
+                half_open(talk).client_flight().short(Client, PING).short(Server, &ack(0)).made.updates = [1, 0];
+                let spot = send(talk, Client, Short, PING, At::Datagram(0));
+                talk.made.time += SECOND;
+                talk.made.updates = [1, 1];
+                talk.confirm().later();
+                spot
+            },
+        )
+        .of(9001),
+        lawful(
+            ("early-update", "answer", "6.1"),
+            "The client answers an update of the server before HANDSHAKE_DONE.",
+            |talk| {
+                half_open(talk).client_flight().made.updates = [0, 1];
+                talk.short(Server, PING).made.updates = [1, 1];
+                let spot = send(talk, Client, Short, PING, At::Datagram(0));
+                talk.made.time += SECOND;
+                talk.confirm().later();
+                spot
+            },
+        )
+        .of(9001),
+    ]
+}
+
+fn too_often() -> Vec<Case> {
+    vec![
+        broken(
+            ("second-update", "unacknowledged", "6.1"),
+            "The client updates its keys again, before a packet with those that it has was acknowledged.",
+            |talk| {
+                update(talk);
+                again(talk)
+            },
+        )
+        .of(9001),
+        lawful(
+            ("second-update", "acknowledged", "6.1"),
+            "The client updates its keys again, after a packet with those that it has was acknowledged.",
+            |talk| {
+                update(talk);
+                talk.short(Server, &all_to(talk.made.numbers[Client as usize][2] - 1));
+                again(talk)
+            },
+        )
+        .of(9001),
+        lawful(
+            ("second-update", "answer", "6.1"),
+            "The server answers a second update, while none of its packets with the keys before was acknowledged.",
+            |talk| {
+                update(talk);
+                talk.short(Server, &all_to(talk.made.numbers[Client as usize][2] - 1)).made.updates = [2, 1];
+                talk.short(Client, PING).made.updates = [2, 2];
+                let spot = send(talk, Server, Short, PING, At::Datagram(0));
+                talk.later();
+                spot
+            },
+        )
+        .of(9001),
+    ]
+}
+
+// The client's second update, which the server answers a second later.
+fn again(talk: &mut Talk) -> Spot {
+    talk.made.updates = [2, 1];
+    let spot = send(talk, Client, Short, PING, At::Datagram(0));
+    talk.made.updates = [2, 2];
+    talk.later();
+    spot
+}
+
+// Up to the server's first datagram.
+fn half_open(talk: &mut Talk) -> &mut Talk {
+    let hello = talk.client_hello();
+    talk.send(Client, Initial, &hello).server_flight()
 }
 
 fn handshake(talk: &mut Talk, sender: quic_wire::Side) -> Spot {

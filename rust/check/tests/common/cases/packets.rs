@@ -4,7 +4,7 @@ use crate::common::{Kept, seal_with};
 use crate::made::{Client, Handshake, Initial, Server, Short};
 use crate::talk::{PING, Talk, ack, ack_of, padded};
 use quic_wire::datagram::{Header, HeaderKind};
-use quic_wire::packet::PacketNumber::{U8, U32};
+use quic_wire::packet::PacketNumber::{U8, U16, U32};
 use quic_wire::{ConnectionId, Side};
 
 const SECOND: u64 = 1_000_000_000;
@@ -174,6 +174,16 @@ fn order() -> Vec<Case> {
             "Packet number 128 has one byte, while 0 is the largest that is acknowledged.",
             |talk| number_length(talk, 128),
         ),
+        broken(
+            ("number-length", "truncated", "17.1"),
+            "Packet number 256 has one byte, while nothing is acknowledged.",
+            |talk| unacknowledged(talk, 256),
+        ),
+        lawful(
+            ("number-length", "whole", "17.1"),
+            "Packet number 255 has one byte, and so is whole, while nothing is acknowledged.",
+            |talk| unacknowledged(talk, 255),
+        ),
     ]
 }
 
@@ -295,6 +305,19 @@ fn number_length(talk: &mut Talk, number: u16) -> Spot {
     let spot = last(talk, Client, Short, number.into(), At::Datagram(NUMBER));
     talk.short(Server, &ack_of(number)).made.time += SECOND;
     talk.short(Server, PING);
+    spot
+}
+
+// The number and the one before it, of which the server has acknowledged none.
+fn unacknowledged(talk: &mut Talk, number: u16) -> Spot {
+    let hello = talk.client_hello();
+    talk.send(Client, Initial, &hello).server_flight().client_flight();
+    let before = number - 1;
+    talk.sealed(Client, before.into(), U16(before), 0, PING).sealed(Client, number.into(), U8(number as u8), 0, PING);
+    let spot = last(talk, Client, Short, number.into(), At::Datagram(NUMBER));
+    talk.made.time += SECOND;
+    let both = [&[0x1e, 2][..], &(0x4000 | number).to_be_bytes(), &[0, 0, 1]].concat();
+    talk.short(Server, &both).short(Server, PING);
     spot
 }
 

@@ -54,7 +54,7 @@ fn versions() -> Vec<Case> {
         broken(
             ("chosen-version", "client", "4"),
             "The client's packet has version 1, and its chosen version is 2.",
-            |talk| informed(talk, Client, &BOTH[4..]),
+            |talk| informed(talk, Client, &[&BOTH[4..8], &BOTH[4..]].concat()),
         ),
         broken(
             ("chosen-version", "server", "4"),
@@ -67,7 +67,19 @@ fn versions() -> Vec<Case> {
             |talk| informed(talk, Server, BOTH),
         ),
     ];
-    of(information).chain(of(chosen)).collect()
+    let available = vec![
+        broken(
+            ("chosen-available", "client", "3"),
+            "The client's chosen version is 1, and only version 2 is available.",
+            |talk| informed(talk, Client, &BOTH[..8]),
+        ),
+        lawful(
+            ("chosen-available", "server", "3"),
+            "The server's chosen version is 1, and only version 2 is available.",
+            |talk| informed(talk, Server, &BOTH[..8]),
+        ),
+    ];
+    of(information).chain(of(chosen)).chain(of(available)).collect()
 }
 
 fn ids() -> Vec<Case> {

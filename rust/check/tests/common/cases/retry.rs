@@ -1,4 +1,4 @@
-//! Of what a client sends after a Retry: rules of src/rules/packets.rs and src/rules/frames.rs.
+//! Of what a client sends after a Retry, and of tokens: rules of src/rules/packets.rs and src/rules/handshake.rs.
 use super::{At, Case, Spot, broken, last, lawful, send};
 use crate::made::{Client, Initial, Server, crypto};
 use crate::talk::{Talk, padded};
@@ -7,6 +7,9 @@ use quic_wire::packet::VERSION_2;
 
 const ID: &[u8] = b"retried";
 
+// Where the Source Connection ID is in the client's Initial packets to that id: behind the first byte, the version, the id
+// and the lengths of both.
+const SOURCE: usize = 1 + 4 + 1 + 7 + 1;
 // Where the token begins in the client's Initial packets to that id: behind the first byte, the version, both ids with
 // their lengths, of which the client's has 4 bytes, and the token's own length (RFC 9000, section 17.2.2).
 const TOKEN: usize = 1 + 4 + 1 + 7 + 1 + 4 + 1;
@@ -14,7 +17,7 @@ const TOKEN: usize = 1 + 4 + 1 + 7 + 1 + 4 + 1;
 const NUMBER: usize = TOKEN + 5 + 2;
 
 pub fn all() -> Vec<Case> {
-    [numbers(), tokens(), versions(), hellos()].into_iter().flatten().collect()
+    [numbers(), tokens(), first_tokens(), sources(), versions(), hellos()].into_iter().flatten().collect()
 }
 
 fn numbers() -> Vec<Case> {
@@ -63,6 +66,67 @@ fn tokens() -> Vec<Case> {
                 let spot = last(talk, Client, Initial, 1, At::Datagram(0));
                 talk.answer().later();
                 spot
+            },
+        ),
+    ]
+}
+
+// Of a token that a NEW_TOKEN gave.
+fn first_tokens() -> Vec<Case> {
+    vec![
+        broken(
+            ("token-kept", "none", "8.1.3"),
+            "The client's first Initial packet has a token, and its second one has none.",
+            |talk| two_tokens(talk, b""),
+        ),
+        lawful(
+            ("token-kept", "same", "8.1.3"),
+            "The client's second Initial packet has the token of its first one.",
+            |talk| two_tokens(talk, b"first"),
+        ),
+        lawful(
+            ("token-kept", "retry", "8.1.3"),
+            "The client's first Initial packet has no token, and after a Retry the next one has the Retry's.",
+            |talk| {
+                let hello = begin(talk);
+                end(talk, &hello, At::Datagram(TOKEN))
+            },
+        ),
+    ]
+}
+
+// Two Initial packets, of which the second one has this token.
+fn two_tokens(talk: &mut Talk, token: &[u8]) -> Spot {
+    let hello = talk.client_hello();
+    talk.made.token = b"first".to_vec();
+    talk.send(Client, Initial, &hello).made.token = token.to_vec();
+    // The client's first id has 8 bytes, that of a Retry 7.
+    let spot = send(talk, Client, Initial, &hello, At::Datagram(TOKEN + 1));
+    talk.made.token = b"first".to_vec();
+    talk.answer().later();
+    spot
+}
+
+fn sources() -> Vec<Case> {
+    vec![
+        broken(
+            ("source-after-retry", "other", "17.2.5.2"),
+            "After a Retry the client's Initial packet has another Source Connection ID.",
+            |talk| {
+                let hello = begin(talk);
+                let id = std::mem::replace(&mut talk.made.ids[0], b"else".to_vec());
+                let spot = send(talk, Client, Initial, &hello, At::Datagram(SOURCE));
+                talk.made.ids[0] = id;
+                talk.answer().later();
+                spot
+            },
+        ),
+        lawful(
+            ("source-after-retry", "same", "17.2.5.2"),
+            "After a Retry the client's Initial packet has the Source Connection ID of the one before.",
+            |talk| {
+                let hello = begin(talk);
+                end(talk, &hello, At::Datagram(SOURCE))
             },
         ),
     ]

@@ -114,6 +114,22 @@ fn resets() -> Vec<Case> {
                 plant(talk, Client, &[0x15, 0, 1], 0..3)
             },
         ),
+        broken(
+            ("reset-changed", "code", "13.3"),
+            "The client sends RESET_STREAM again, with another error code.",
+            |talk| {
+                talk.handshake().short(Client, RESET);
+                plant(talk, Client, &[4, 0, 7, 1], 0..4)
+            },
+        ),
+        lawful(
+            ("reset-changed", "same", "13.3"),
+            "The client sends RESET_STREAM again, and one of another stream with another error code.",
+            |talk| {
+                talk.handshake().short(Client, RESET);
+                plant(talk, Client, &[RESET, &[4, 4, 7, 1]].concat(), 0..4)
+            },
+        ),
         lawful(
             ("after-reset", "reordered", "3.3"),
             "A packet with data of a stream comes after one with a greater number that has RESET_STREAM.",

@@ -2,7 +2,6 @@
 
 use crate::capture::Datagram;
 use crate::connection::Connection;
-use crate::end::MOST_PACKETS;
 use crate::held::Waiting;
 use crate::index::{Index, Owner};
 use crate::keylog::KeyLog;
@@ -10,25 +9,19 @@ use crate::keyring::{CHECKS, MOST_USUAL, Offloaded};
 use crate::keys::VERSIONS;
 use crate::opened::{Reset, Retried, id_of};
 use crate::search::Found;
-use crate::sink::{Ended, Event, Rest, Sink, Unopened};
+use crate::sink::{Event, Rest, Sink, Unopened};
 use earlier::Strays;
 use quic_wire::datagram::{HeaderError, HeaderKind, PacketRef, Packets};
 use quic_wire::packet::LONG_HEADER_FORM;
 use quic_wire::{ConnectionId, Side};
+use room::Room;
 use std::collections::BTreeMap;
 
 mod earlier;
+mod room;
 
-/// How many connections are followed at once. For a further one others are forgotten, first those without a Handshake
-/// packet that was opened, then those that said nothing for the longest time.
-pub const MOST_CONNECTIONS: usize = 1 << 15;
-
-/// How many packets of each number space are remembered: so many of all connections together, but at least some.
-const MOST_REMEMBERED: usize = 1 << 18;
-const LEAST_REMEMBERED: usize = 32;
-
-// After how many datagrams connections that ended are looked for, at least.
-const SWEEP: usize = 1 << 10;
+pub use earlier::MOST_TRIALS;
+pub use room::{MOST_BEGUN, MOST_CONNECTIONS, MOST_HELD};
 
 /// What was counted besides.
 #[derive(Clone, Debug, Default, PartialEq, Eq)]
@@ -69,12 +62,12 @@ pub struct Follower {
     /// The secrets. It may grow at any time.
     pub keylog: KeyLog,
     connections: BTreeMap<usize, Box<Connection>>,
+    room: Room,
     index: Index,
     waiting: Waiting,
     strays: Strays,
     counts: Counts,
     packets: u64,
-    since_sweep: usize,
     buffer: Vec<u8>,
 }
 
@@ -109,6 +102,7 @@ impl Follower {
             let course = Course { owners: owners.clone(), first_id: None };
             self.segment(&Datagram { bytes: segment, ..*datagram }, course, id_len, sink);
         }
+        self.give_up_messages(sink);
     }
 
     /// Ends the capture: 0-RTT packets that still wait are given up.
@@ -230,14 +224,19 @@ impl Follower {
         sink: &mut dyn Sink,
     ) -> Option<Owner> {
         let mut buffer = std::mem::take(&mut self.buffer);
-        let most_packets = MOST_REMEMBERED / self.connections.len().max(1);
+        let most_packets = self.most_packets();
         let opened_by = owners.iter().copied().find(|(number, sender)| {
             let Follower { connections, keylog, .. } = self;
             let Some(connection) = connections.get_mut(number) else { return false };
             let Some(opened) = connection.open(packet, *sender, keylog, &mut buffer) else { return false };
-            connection.most_packets = most_packets.clamp(LEAST_REMEMBERED, MOST_PACKETS);
-            if let Some(ids) = take(connection, &opened, datagram, self.packets, sink) {
+            connection.most_packets = most_packets;
+            self.room.leave(connection);
+            let ids = take(connection, &opened, datagram, self.packets, sink);
+            if ids.is_some() {
                 self.strays.name(connection, opened.kind());
+            }
+            self.room.enter(connection);
+            if let Some(ids) = ids {
                 self.learn((*number, *sender), datagram, &ids);
             }
             true
@@ -275,6 +274,7 @@ impl Follower {
         self.counts.opened += 1;
         self.packets += 1;
         self.make_room(sink);
+        self.room.enter(&connection);
         let first_dcid = *connection.first_dcid();
         self.connections.insert(number, Box::new(connection));
         self.learn(owner, datagram, &ids);
@@ -359,42 +359,10 @@ impl Follower {
     // Learns the ids and the path of a connection, from what was authentic.
     fn learn(&mut self, (number, sender): Owner, datagram: &Datagram<'_>, ids: &[(ConnectionId, Side)]) {
         let Follower { connections, index, .. } = self;
-        let is_weak = |number| connections.get(&number).is_none_or(|one| !one.end(Side::Server).has_handshake());
+        let is_weak = |number| connections.get(&number).is_none_or(|one| !one.is_named);
         ids.iter().for_each(|(id, chosen_by)| index.add_id(*id, (number, !*chosen_by), is_weak));
         index.add_path((datagram.from, datagram.to), (number, sender), is_weak);
         index.add_path((datagram.to, datagram.from), (number, !sender), is_weak);
-    }
-
-    // Forgets the connections that ended, now and then.
-    fn sweep(&mut self, now: u64, sink: &mut dyn Sink) {
-        self.since_sweep += 1;
-        if self.since_sweep < SWEEP.max(self.connections.len()) {
-            return;
-        }
-        self.since_sweep = 0;
-        let ended: Vec<_> =
-            self.connections.iter().filter_map(|(number, one)| Some((*number, one.ended(now)?))).collect();
-        ended.into_iter().for_each(|(number, how)| self.forget(number, how, sink));
-    }
-
-    // Forgets a quarter of the connections if there are too many.
-    fn make_room(&mut self, sink: &mut dyn Sink) {
-        if self.connections.len() < MOST_CONNECTIONS {
-            return;
-        }
-        let rank = |one: &Connection| (one.end(Side::Server).has_handshake(), one.times().1);
-        let mut ranked: Vec<_> = self.connections.iter().map(|(number, one)| (rank(one), *number)).collect();
-        ranked.sort_unstable();
-        ranked.truncate(MOST_CONNECTIONS / 4);
-        ranked.into_iter().for_each(|(_, number)| self.forget(number, Ended::Crowded, sink));
-    }
-
-    fn forget(&mut self, number: usize, how: Ended, sink: &mut dyn Sink) {
-        self.index.forget(number);
-        if let Some(connection) = self.connections.remove(&number) {
-            self.strays.forget(&connection, how, &mut self.keylog);
-            sink.ended(&connection, how);
-        }
     }
 }
 

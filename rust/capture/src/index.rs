@@ -58,7 +58,7 @@ impl Index {
         if id.is_empty() {
             return;
         }
-        let owners = self.by_id.entry(id).or_default();
+        let owners = self.by_id.entry(id).or_insert_with(|| Vec::with_capacity(1));
         if owners.contains(&owner) {
             return;
         }
@@ -73,7 +73,7 @@ impl Index {
 
     /// Adds the addresses between which a connection's packets are sent.
     pub(crate) fn add_path(&mut self, path: Path, owner: Owner, is_weak: impl Fn(usize) -> bool) {
-        let owners = self.by_path.entry(path).or_default();
+        let owners = self.by_path.entry(path).or_insert_with(|| Vec::with_capacity(1));
         if owners.last() == Some(&owner) {
             return;
         }
@@ -116,7 +116,7 @@ impl Index {
     }
 }
 
-// Anyone can begin a connection, and only its ends get to a handshake: one without makes room first, then the oldest.
+// Anyone can begin a connection, and only its ends have the secrets: one without makes room first, then the oldest.
 fn push(owners: &mut Vec<Owner>, owner: Owner, is_weak: impl Fn(usize) -> bool) {
     if owners.len() >= MOST_OWNERS {
         owners.remove(owners.iter().position(|(connection, _)| is_weak(*connection)).unwrap_or(0));
@@ -145,7 +145,7 @@ mod tests {
     }
 
     #[test]
-    fn those_without_a_handshake_make_room() {
+    fn those_that_anyone_began_make_room() {
         let mut index = Index::default();
         for connection in 0..100 {
             index.add_path(path(1), (connection, Side::Client), |one| one != 3);

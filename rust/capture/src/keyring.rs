@@ -188,11 +188,7 @@ impl Keyring {
     ) -> Option<Opened<'a>> {
         let slot = &mut self.phases[candidate.sender as usize];
         if slot.is_none() {
-            let label = if candidate.sender == Side::Client { Label::ClientTraffic } else { Label::ServerTraffic };
-            // Packets that say the version, and those before the first update, may be missing.
-            let [one, two] = VERSIONS;
-            let versions = if known.version == two { [two, one] } else { [one, two] };
-            let mut phases = keys_of(known, versions, label).map(Phase::new);
+            let mut phases = first_phases(known, candidate.sender);
             let phase = phases.find_map(|mut phase| phase.open(candidate, buffer).is_some().then_some(phase))?;
             *slot = Some(Box::new(phase));
         }
@@ -210,11 +206,24 @@ impl Keyring {
         buffer: &mut Vec<u8>,
     ) -> Option<usize> {
         let Offloaded { bytes, begin, id_len, sender } = datagram;
-        let size = datagram.sizes(self.segments[sender as usize]).find(|size| {
-            let segment = Packets::with_checks(&bytes[begin..*size], id_len, &VERSIONS, CHECKS).next();
-            let Some(Ok(packet)) = segment else { return false };
-            self.open_short(Candidate { packet, sender, expected }, known, buffer).is_some()
-        })?;
+        let last = self.segments[sender as usize];
+        let mut size_by = |phase: &mut Phase| {
+            datagram.sizes(last).find(|size| {
+                let segment = Packets::with_checks(&bytes[begin..*size], id_len, &VERSIONS, CHECKS).next();
+                let Some(Ok(packet)) = segment else { return false };
+                phase.open(Candidate { packet, sender, expected }, buffer).is_some()
+            })
+        };
+        let slot = &mut self.phases[sender as usize];
+        let size = match slot {
+            Some(phase) => size_by(phase)?,
+            None => {
+                let mut phases = first_phases(known, sender);
+                let (size, phase) = phases.find_map(|mut phase| Some((size_by(&mut phase)?, phase)))?;
+                *slot = Some(Box::new(phase));
+                size
+            }
+        };
         if size < bytes.len() {
             self.segments[sender as usize] = size;
         }
@@ -246,6 +255,15 @@ impl Phase {
         self.updates += 1;
         Some(opened.with_updates(self.updates))
     }
+}
+
+// The keys that a side's 1-RTT packets may have. Packets that say the version, and those before the first update, may
+// be missing.
+fn first_phases(known: &Known<'_>, sender: Side) -> impl Iterator<Item = Phase> {
+    let label = if sender == Side::Client { Label::ClientTraffic } else { Label::ServerTraffic };
+    let [one, two] = VERSIONS;
+    let versions = if known.version == two { [two, one] } else { [one, two] };
+    keys_of(known, versions, label).map(Phase::new)
 }
 
 // The keys of a secret, with each version and suite that the connection may have.

@@ -113,27 +113,50 @@ impl Follower {
     }
 
     // Whose a datagram may be, and how many bytes the ids of its short headers have.
-    fn owners(&self, datagram: &Datagram<'_>, first: u8) -> (Vec<Owner>, usize) {
-        let is_long = first & LONG_HEADER_FORM != 0;
-        let (mut owners, id_len) = if is_long {
-            let id = quic_wire::datagram::receiver_id(datagram.bytes, 0).filter(|id| id.len() <= 20).unwrap_or(&[]);
-            (self.index.to_id(id).to_vec(), id.len())
-        } else {
-            let (owners, id_len) = self.index.to_short(datagram.bytes);
-            (owners.to_vec(), id_len)
-        };
-        if owners.is_empty() {
-            // A short header without an id is only that of a receiver whose ids have no bytes.
-            let has_no_id = |(number, sender): &Owner| {
-                self.connections
-                    .get(number)
-                    .is_some_and(|one| one.end(!*sender).first_scid().is_some_and(|id| id.is_empty()))
-            };
-            let on_path = self.index.on_path((datagram.from, datagram.to));
-            owners = on_path.filter(|owner| is_long || has_no_id(owner)).collect();
+    fn owners(&mut self, datagram: &Datagram<'_>, first: u8) -> (Vec<Owner>, usize) {
+        if first & LONG_HEADER_FORM == 0 {
+            return self.owners_of_short(datagram);
         }
-        owners.retain(|(number, _)| self.connections.get(number).is_some_and(|one| one.ended(datagram.time).is_none()));
-        (owners, id_len)
+        let id = quic_wire::datagram::receiver_id(datagram.bytes, 0).filter(|id| id.len() <= 20).unwrap_or(&[]);
+        let mut owners = self.index.to_id(id).to_vec();
+        if owners.is_empty() {
+            owners = self.index.on_path((datagram.from, datagram.to)).collect();
+        }
+        owners.retain(|owner| self.is_live(owner, datagram));
+        (owners, id.len())
+    }
+
+    // The ids of several connections may be those of a short header, since anyone chooses ids of any length: those of
+    // which one opens it are its owners. Without an id it is only that of a receiver whose ids have no bytes.
+    fn owners_of_short(&mut self, datagram: &Datagram<'_>) -> (Vec<Owner>, usize) {
+        let has_no_id = |(number, sender): &Owner| {
+            let connection = self.connections.get(number);
+            connection.is_some_and(|one| one.end(!*sender).first_scid().is_some_and(|id| id.is_empty()))
+        };
+        let by_path: Vec<_> = self.index.on_path((datagram.from, datagram.to)).filter(has_no_id).collect();
+        let by_id = self.index.to_short(datagram.bytes).map(|(owners, id_len)| (owners.to_vec(), id_len));
+        let mut all: Vec<_> = by_id.chain([(by_path, 0)]).collect();
+        let longest = all.first().map_or(0, |(_, id_len)| *id_len);
+        all.iter_mut().for_each(|(owners, _)| owners.retain(|owner| self.is_live(owner, datagram)));
+        all.retain(|(owners, _)| !owners.is_empty());
+        let is_one = all.len() <= 1;
+        let opening = all.iter().position(|(owners, id_len)| is_one || self.opens(datagram, owners, *id_len));
+        let place = opening.unwrap_or(0);
+        if all.is_empty() { (Vec::new(), longest) } else { all.swap_remove(place) }
+    }
+
+    fn is_live(&self, (number, _): &Owner, datagram: &Datagram<'_>) -> bool {
+        self.connections.get(number).is_some_and(|one| one.ended(datagram.time).is_none())
+    }
+
+    // Whether a short header's packet, or the first of several, is one of these senders.
+    fn opens(&mut self, datagram: &Datagram<'_>, owners: &[Owner], id_len: usize) -> bool {
+        let Follower { connections, keylog, buffer, .. } = self;
+        owners.iter().any(|(number, sender)| {
+            let offloaded = Offloaded { bytes: datagram.bytes, begin: 0, id_len, sender: *sender };
+            let connection = connections.get_mut(number);
+            connection.is_some_and(|one| one.segment_len(offloaded, keylog, buffer).is_some())
+        })
     }
 
     // The size of the segments of a datagram that has several.
@@ -358,11 +381,12 @@ impl Follower {
 
     // Learns the ids and the path of a connection, from what was authentic.
     fn learn(&mut self, (number, sender): Owner, datagram: &Datagram<'_>, ids: &[(ConnectionId, Side)]) {
+        let most = self.most_paths();
         let Follower { connections, index, .. } = self;
         let is_weak = |number| connections.get(&number).is_none_or(|one| !one.is_named);
         ids.iter().for_each(|(id, chosen_by)| index.add_id(*id, (number, !*chosen_by), is_weak));
-        index.add_path((datagram.from, datagram.to), (number, sender), is_weak);
-        index.add_path((datagram.to, datagram.from), (number, !sender), is_weak);
+        index.add_path((datagram.from, datagram.to), (number, sender), most, is_weak);
+        index.add_path((datagram.to, datagram.from), (number, !sender), most, is_weak);
     }
 }
 

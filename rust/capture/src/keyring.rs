@@ -115,7 +115,8 @@ impl Keyring {
         }
     }
 
-    /// After a Retry, Initial packets have keys of its id, except those of the client that came late.
+    /// After a Retry that the client took, Initial packets have keys of its id, except those of the client that came
+    /// late.
     pub(crate) fn retry(&mut self, retried: &Retried) {
         self.retry_id = Some(retried.id());
     }
@@ -145,7 +146,7 @@ impl Keyring {
     ) -> Option<Opened<'a>> {
         let (header, sender) = (candidate.packet.header(), candidate.sender);
         let (slot, label) = match (header.kind(), sender) {
-            (HeaderKind::Initial, _) => return candidate.open(self.initial(&candidate)?, buffer),
+            (HeaderKind::Initial, _) => return self.open_initial(candidate, buffer),
             (HeaderKind::Short, _) => {
                 let opened = self.open_short(candidate, known, buffer);
                 if self.phases.iter().all(Option::is_some) {
@@ -169,13 +170,22 @@ impl Keyring {
         opened
     }
 
-    fn initial(&mut self, candidate: &Candidate<'_>) -> Option<&PacketKeys> {
-        let (packet, sender) = (&candidate.packet, candidate.sender);
-        let is_first = sender == Side::Client && packet.dst_cid() == self.first_id.as_slice();
-        let id = self.retry_id.filter(|_| !is_first).unwrap_or(self.first_id);
-        let key = (packet.header().version(), sender, id);
+    // Packets that the client sent before a Retry may come late. Anyone who saw them can make a Retry too, which the
+    // client may have discarded.
+    fn open_initial<'a>(&mut self, candidate: Candidate<'a>, buffer: &'a mut Vec<u8>) -> Option<Opened<'a>> {
+        let key = |id| (candidate.packet.header().version(), candidate.sender, id);
+        let retried = self.retry_id.map(key).filter(|retried| {
+            let keys = self.initial(*retried);
+            keys.is_some_and(|keys| candidate.is_opened_by(keys, buffer))
+        });
+        let first = key(self.first_id);
+        candidate.open(self.initial(retried.unwrap_or(first))?, buffer)
+    }
+
+    fn initial(&mut self, key: InitialKey) -> Option<&PacketKeys> {
         if !self.initial.iter().any(|(of, _)| *of == key) {
-            self.initial.push((key, PacketKeys::initial(key.0, &id, sender)?));
+            let (version, sender, id) = key;
+            self.initial.push((key, PacketKeys::initial(version, &id, sender)?));
         }
         self.initial.iter().find(|(of, _)| *of == key).map(|(_, keys)| keys)
     }
@@ -266,10 +276,12 @@ fn first_phases(known: &Known<'_>, sender: Side) -> impl Iterator<Item = Phase> 
     keys_of(known, versions, label).map(Phase::new)
 }
 
-// The keys of a secret, with each version and suite that the connection may have.
+// The keys of a secret, with each version and suite that the connection may have, first the suite that the server
+// named: anyone who saw the client's first packet can name another.
 fn keys_of<const N: usize>(known: &Known<'_>, versions: [u32; N], label: Label) -> impl Iterator<Item = PacketKeys> {
     let secret = known.random.and_then(|random| known.keylog.secret(random, label));
-    let suites = Suite::ALL.into_iter().filter(|suite| known.suite.is_none_or(|number| number == suite.number()));
-    let kinds = suites.flat_map(move |suite| versions.map(|version| (suite, version)));
+    let mut suites = Suite::ALL;
+    suites.sort_by_key(|suite| known.suite != Some(suite.number()));
+    let kinds = suites.into_iter().flat_map(move |suite| versions.map(|version| (suite, version)));
     kinds.filter_map(move |(suite, version)| PacketKeys::new(secret?, suite, version))
 }

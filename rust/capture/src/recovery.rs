@@ -11,7 +11,9 @@ use std::ops::RangeInclusive;
 /// How many packets of a number space are remembered at most.
 pub const MOST_PACKETS: usize = 1 << 14;
 
-/// How many runs of numbers are remembered. A number below them counts as sent before.
+/// How many runs of numbers are remembered: as many as packets, but at least and at most some. A number below them
+/// counts as sent before.
+const LEAST_RUNS: usize = 1 << 4;
 const MOST_RUNS: usize = 1 << 8;
 
 /// A packet counts as lost once one with a number this much greater is acknowledged (RFC 9002, section 6.1.1).
@@ -171,23 +173,38 @@ impl Space {
 
     /// Adds a packet whose number wasn't used before. Only so many are remembered.
     pub(crate) fn add(&mut self, sent: Sent, most: usize) {
-        self.remember(most.saturating_sub(1));
+        self.remember_packets(most.saturating_sub(1));
         // Most spaces have one packet or two.
         if self.sent.len() == self.sent.capacity() {
             self.sent.reserve_exact(self.sent.len().max(1));
         }
         self.used.insert_one(sent.number);
-        if self.used.len() > MOST_RUNS {
-            self.floor = self.used.pop_min().map_or(self.floor, |run| run.end);
-        }
+        self.remember_runs(most);
         self.open.insert(sent.number);
         self.largest = self.largest.max(Some(sent.number));
         let place = self.place(sent.number).unwrap_or_else(|place| place);
         self.sent.insert(place, sent);
     }
 
-    /// Forgets all packets but the latest.
+    // Whether there were more.
+    fn remember_runs(&mut self, most: usize) -> bool {
+        let before = self.used.len();
+        while self.used.len() > most.clamp(LEAST_RUNS, MOST_RUNS) {
+            self.floor = self.used.pop_min().map_or(self.floor, |run| run.end);
+        }
+        self.used.len() < before
+    }
+
+    /// Forgets all packets and runs of numbers but the latest.
     pub(crate) fn remember(&mut self, most: usize) {
+        if self.remember_runs(most) {
+            // In as little memory as they need.
+            self.used = self.used.iter().collect();
+        }
+        self.remember_packets(most);
+    }
+
+    fn remember_packets(&mut self, most: usize) {
         while self.sent.len() > most {
             let Some(Sent { number, .. }) = self.sent.pop_front() else { break };
             self.open.remove(number);

@@ -149,7 +149,7 @@ fn messages_that_are_not_whole() {
     // 3,000 pieces in each packet, of which each counts 64 bytes and more.
     let piece = |offset: u16| [&[6][..], &(0x4000 | offset).to_be_bytes(), &[1, 0]].concat();
     let payload: Vec<u8> = (1..=3000).flat_map(|offset| piece(2 * offset)).collect();
-    let count = 2 * MOST_HELD / (3000 * 64);
+    let count = 5 * MOST_HELD / 4 / (3000 * 64);
     for n in 0..count as u64 {
         let dcid = n.to_be_bytes().to_vec();
         let plain = Plain { dcid: dcid.clone(), payload: payload.clone(), ..first.clone() };

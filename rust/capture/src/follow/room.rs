@@ -3,6 +3,7 @@
 use super::Follower;
 use crate::connection::Connection;
 use crate::end::MOST_PACKETS;
+use crate::index::MOST_PLACES;
 use crate::sink::{Ended, Sink};
 
 /// How many connections are followed at once. For a further one others are forgotten, first those that anyone could
@@ -19,6 +20,10 @@ pub const MOST_HELD: usize = 1 << 26;
 /// How many packets of each number space are remembered: so many of all connections together, but at least some.
 const MOST_REMEMBERED: usize = 1 << 18;
 const LEAST_REMEMBERED: usize = 8;
+
+/// The same of pairs of addresses of each connection, of which anyone can send Initial packets.
+const MOST_PATHS: usize = 1 << 18;
+const LEAST_PATHS: usize = 8;
 
 // After how many datagrams connections that ended are looked for, at least.
 const SWEEP: usize = 1 << 10;
@@ -58,7 +63,12 @@ impl Follower {
         (MOST_REMEMBERED / self.connections.len().max(1)).clamp(LEAST_REMEMBERED, MOST_PACKETS)
     }
 
-    /// Forgets the connections that ended, now and then, and of the others more packets than are remembered.
+    /// How many pairs of addresses of a connection are remembered now.
+    pub(super) fn most_paths(&self) -> usize {
+        (MOST_PATHS / self.connections.len().max(1)).clamp(LEAST_PATHS, MOST_PLACES)
+    }
+
+    /// Forgets the connections that ended, now and then, and of the others what is more than is remembered now.
     pub(super) fn sweep(&mut self, now: u64, sink: &mut dyn Sink) {
         self.room.since_sweep += 1;
         if self.room.since_sweep < SWEEP.max(self.connections.len()) {
@@ -68,8 +78,11 @@ impl Follower {
         let ended: Vec<_> =
             self.connections.iter().filter_map(|(number, one)| Some((*number, one.ended(now)?))).collect();
         ended.into_iter().for_each(|(number, how)| self.forget(number, how, sink));
-        let most = self.most_packets();
-        self.connections.values_mut().for_each(|one| one.remember(most));
+        let (packets, paths) = (self.most_packets(), self.most_paths());
+        for (number, connection) in &mut self.connections {
+            connection.remember(packets);
+            self.index.remember(*number, paths);
+        }
     }
 
     /// Forgets a quarter of the connections if there are too many, or of those that anyone could have begun.

@@ -97,10 +97,13 @@ impl Follower {
         if owners.is_empty() && first & LONG_HEADER_FORM == 0 && may_be_several(datagram, id_len) {
             (owners, id_len) = self.near_offloaded(datagram).unwrap_or((owners, id_len));
         }
-        let size = self.segment_len(datagram, &owners, id_len).unwrap_or(datagram.bytes.len());
-        for segment in datagram.bytes.chunks(size) {
-            let course = Course { owners: owners.clone(), first_id: None };
-            self.segment(&Datagram { bytes: segment, ..*datagram }, course, id_len, sink);
+        let size = self.segment_len(datagram, &owners, id_len).or_else(|| self.padded_len(datagram, id_len));
+        let size = size.unwrap_or(datagram.bytes.len());
+        for bytes in datagram.bytes.chunks(size) {
+            let segment = Datagram { bytes, ..*datagram };
+            // A connection may begin with the first of them.
+            let owners = if owners.is_empty() { self.owners(&segment, bytes[0]).0 } else { owners.clone() };
+            self.segment(&segment, Course { owners, first_id: None }, id_len, sink);
         }
         self.give_up_messages(sink);
     }
@@ -174,11 +177,36 @@ impl Follower {
             let offloaded = Offloaded { bytes, begin, id_len, sender: *sender };
             connections.get_mut(number)?.segment_len(offloaded, keylog, buffer)
         })?;
-        if size < bytes.len() {
-            self.counts.offloaded += 1;
-            self.counts.segments += bytes.len().div_ceil(size) as u64;
-        }
+        self.count_segments(bytes.len(), size);
         Some(size)
+    }
+
+    // The same of one whose first segment has only long headers: if that is padded, zeros are between its packets and
+    // the next segment's.
+    fn padded_len(&mut self, datagram: &Datagram<'_>, id_len: usize) -> Option<usize> {
+        let bytes = datagram.bytes;
+        if datagram.missing > 0 || bytes.len() <= MOST_USUAL {
+            return None;
+        }
+        let packets = |from: usize| {
+            let all = Packets::with_checks(bytes.get(from..).unwrap_or_default(), id_len, &VERSIONS, CHECKS);
+            all.map_while(Result::ok).filter(|packet| !packet.header().is_short())
+        };
+        let id = id_of(packets(0).next()?.dst_cid());
+        let end = packets(0).take_while(|packet| id_of(packet.dst_cid()) == id).last()?.place().range().end;
+        let size = end + bytes.get(end..)?.iter().position(|byte| *byte != 0)?;
+        if size == end || id_of(packets(size).next()?.dst_cid()) != id {
+            return None;
+        }
+        self.count_segments(bytes.len(), size);
+        Some(size)
+    }
+
+    fn count_segments(&mut self, len: usize, size: usize) {
+        if size < len {
+            self.counts.offloaded += 1;
+            self.counts.segments += len.div_ceil(size) as u64;
+        }
     }
 
     // Takes the packets of a datagram.

@@ -279,7 +279,8 @@ fn first_phases(known: &Known<'_>, sender: Side) -> impl Iterator<Item = Phase> 
 // The keys of a secret, with each version and suite that the connection may have, first the suite that the server
 // named: anyone who saw the client's first packet can name another.
 fn keys_of<const N: usize>(known: &Known<'_>, versions: [u32; N], label: Label) -> impl Iterator<Item = PacketKeys> {
-    let secret = known.random.and_then(|random| known.keylog.secret(random, label));
+    let is_read = known.suite.is_none_or(|number| Suite::of(number).is_some());
+    let secret = known.random.filter(|_| is_read).and_then(|random| known.keylog.secret(random, label));
     let mut suites = Suite::ALL;
     suites.sort_by_key(|suite| known.suite != Some(suite.number()));
     let kinds = suites.into_iter().flat_map(move |suite| versions.map(|version| (suite, version)));

@@ -58,7 +58,8 @@ def readable(capture, keys, scene, path):
     is there instead, if it is."""
     if scene.segment:
         why = CUT.format(scene.segment)
-        return path, [(record, why if is_cut else None) for record, is_cut in cut(capture, scene.segment, path)]
+        pieces = cut(capture, scene.segment, scene.uncut, path)
+        return path, [(record, why if is_cut else None) for record, is_cut in pieces]
     left_out = before_retry(capture, keys) if scene.anew else late_retries(capture, keys)
     if not left_out:
         return capture, None

@@ -6,13 +6,15 @@ record.py FOLDER [SCENE ..]
 FOLDER gets NAME.pcap or NAME.pcapng, NAME.keys and NAME.json of each scene; of all without SCENE. The programs of a
 scene run in a network of their own (unshare), so it needs no root, and nothing leaves that network. A scene whose
 programs aren't installed is skipped, with a word. Of Debian 12: wireshark-common, tshark, iproute2, ngtcp2-client,
-ngtcp2-server, caddy; of later ones openssl 3.5, curl, nginx and HAProxy with HTTP/3, python3-aioquic. AIOQUIC names the
-Python that has aioquic, python3 without it. QUINN names the program that cargo builds in stacks/quinn/peer with the
-crates of `scripts/lib/cargo-source DIR quinn rustls tokio`, quinn-peer without it.
+ngtcp2-server, caddy, chromium, firefox-esr; of later ones openssl 3.5, curl, nginx and HAProxy with HTTP/3,
+python3-aioquic. AIOQUIC names the Python that has aioquic, python3 without it. QUINN names the program that cargo
+builds in stacks/quinn/peer with the crates of `scripts/lib/cargo-source DIR quinn rustls tokio`, quinn-peer without it.
 Exit status: 0 each scene was recorded or skipped, 1 one failed, 2 usage error.
 """
 
+import base64
 import gzip
+import hashlib
 import os
 import shutil
 import signal
@@ -23,7 +25,7 @@ import time
 from pathlib import Path
 
 import describe
-from scenes import SCENES, Scene
+from scenes import PIN, PRINT, SCENES, Scene
 
 HERE = Path(__file__).resolve().parent
 
@@ -62,10 +64,27 @@ def make_site():
     Path("www").mkdir()
     Path("www/small").write_bytes(b"hello\n")
     Path("www/large").write_bytes(b"a" * 20_000)
+    Path("www/page.html").write_text('<!doctype html><title>a page</title><link rel="icon" href="small"><p>hello\n')
     certificate = "req -x509 -newkey ec -pkeyopt ec_paramgen_curve:prime256v1 -nodes -days 3650 -subj /CN=localhost"
     names = ["-addext", "subjectAltName=DNS:localhost", "-keyout", "key.pem", "-out", "cert.pem"]
     subprocess.run(["openssl", *certificate.split(), *names], check=True, stderr=subprocess.DEVNULL)
     Path("both.pem").write_text(Path("cert.pem").read_text() + Path("key.pem").read_text())
+
+
+def output(command, data=None):
+    """What a command prints, as bytes."""
+    return subprocess.run(command.split(), check=True, input=data, stdout=subprocess.PIPE).stdout
+
+
+def filled(text):
+    """A text with what names the certificate: its fingerprint, and the hash of its key in Base64."""
+    if PIN in text:
+        key = output("openssl pkey -pubin -outform der", output("openssl x509 -in cert.pem -noout -pubkey"))
+        text = text.replace(PIN, base64.b64encode(hashlib.sha256(key).digest()).decode())
+    if PRINT in text:
+        fingerprint = output("openssl x509 -in cert.pem -noout -fingerprint -sha256").decode().strip()
+        text = text.replace(PRINT, fingerprint.partition("=")[2])
+    return text
 
 
 def play(scene: Scene):
@@ -73,7 +92,8 @@ def play(scene: Scene):
     subprocess.run(["ip", "link", "set", "lo", "up"], check=True)
     make_site()
     for name, text in scene.files.items():
-        Path(name).write_text(text)
+        Path(name).parent.mkdir(exist_ok=True)
+        Path(name).write_text(filled(text))
     for name, size in scene.sizes.items():
         Path("www", name).write_bytes(b"a" * size)
     dumpcap = begin(["dumpcap", "-q", *scene.capture, "-f", scene.only, "-w", "capture"], "dumpcap.log")
@@ -82,8 +102,9 @@ def play(scene: Scene):
     # Both sides' secrets are in the client's log.
     server = begin(scene.server, "server.log", env=dict(os.environ, XDG_DATA_HOME=".", XDG_CONFIG_HOME="."))
     time.sleep(scene.patience)
+    own = dict(os.environ, HOME=str(Path.cwd()), SSLKEYLOGFILE=str(Path("keys").resolve()))
     for client in scene.clients:
-        program = begin(client, "client.log", env=dict(os.environ, SSLKEYLOGFILE="keys"))
+        program = begin([filled(word) for word in client], "client.log", env=own)
         try:
             status = program.wait(timeout=scene.limit)
         except subprocess.TimeoutExpired:

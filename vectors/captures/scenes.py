@@ -69,6 +69,8 @@ class Scene:
     compressed: bool = False
     # How many bytes the kernel cuts datagrams into after they were captured.
     segment: int = 0
+    # How many bytes a datagram has at most that isn't cut.
+    uncut: int = 0
     # Files that the programs read.
     files: dict = field(default_factory=dict)
     # How long the server takes to begin, in seconds.
@@ -98,6 +100,8 @@ class Scene:
 
 
 STACKS = {
+    "chromium": "Chromium",
+    "firefox-esr": "Firefox",
     "gtlsclient": "ngtcp2 0.12",
     "gtlsserver": "ngtcp2 0.12",
     "curl": "ngtcp2 1",
@@ -287,4 +291,59 @@ OTHERS = {
     "aioquic-haproxy": served("aioquic's client, and HAProxy", "haproxy", aioquic_client("alpn=h3")),
 }
 
-SCENES = {**NGTCP2, **AIOQUIC, **QUINNS, **OTHERS}
+# What record.py puts in for words of commands and files that a scene can't know.
+PIN, PRINT = "@PIN@", "@PRINT@"
+
+PAGE = f"https://localhost:{PORT}/page.html"
+
+# Nothing but the page is asked for, and its certificate is taken by its key.
+CHROMIUM = [
+    "chromium",
+    *("--headless=new", "--no-sandbox", "--disable-gpu", "--user-data-dir=profile", "--disable-background-networking"),
+    f"--origin-to-force-quic-on=localhost:{PORT}",
+    "--host-resolver-rules=MAP localhost 127.0.0.1",
+    f"--ignore-certificate-errors-spki-list={PIN}",
+    *("--dump-dom", PAGE),
+]
+
+FIREFOX = ["firefox-esr", "--headless", "--no-remote", "--profile", "profile", "--screenshot", "page.png", PAGE]
+PREFERENCES = {
+    "network.http.http3.alt-svc-mapping-for-testing": f'"localhost;h3=:{PORT}"',
+    "network.http.http3.disable_when_third_party_roots_found": "false",
+    "network.dns.disableIPv6": "true",
+    "network.manage-offline-status": "false",
+    "browser.aboutwelcome.enabled": "false",
+}
+FIREFOX_FILES = {
+    "profile/user.js": "".join(f'user_pref("{name}", {value});\n' for name, value in PREFERENCES.items()),
+    "profile/cert_override.txt": f"localhost:{PORT}:\tOID.2.16.840.1.101.3.4.2.1\t{PRINT}\t\n",
+}
+
+
+def browser(says, client, server, files, **others):
+    """A browser that loads a page."""
+    fields = {"files": files, "only": f"udp port {PORT}", "limit": 120, "patience": 3}
+    return Scene(says, server, [client], **fields, **others)
+
+
+# Firefox leaves the two datagrams of its ClientHello to the kernel.
+FIREFOX_CUTS = {"segment": 1252, "uncut": 1500}
+
+BROWSERS = {
+    "chromium-ngtcp2": browser("Chromium loads a page from ngtcp2's server", CHROMIUM, ngtcp2_server(), {}),
+    "chromium-quic-go": browser(
+        "Chromium loads a page from Caddy with quic-go", CHROMIUM, server_of("caddy"), dict([SERVERS["caddy"]])
+    ),
+    "firefox-ngtcp2": browser(
+        "Firefox loads a page from ngtcp2's server", FIREFOX, ngtcp2_server(), FIREFOX_FILES, **FIREFOX_CUTS
+    ),
+    "firefox-quic-go": browser(
+        "Firefox loads a page from Caddy with quic-go",
+        FIREFOX,
+        server_of("caddy"),
+        {**FIREFOX_FILES, **dict([SERVERS["caddy"]])},
+        **FIREFOX_CUTS,
+    ),
+}
+
+SCENES = {**NGTCP2, **AIOQUIC, **QUINNS, **OTHERS, **BROWSERS}

@@ -25,15 +25,16 @@ def with_payload(frame, payload):
     return bytes(ethernet + ip + udp) + payload
 
 
-def cut(capture, size, path):
-    """Writes a file whose datagrams have at most so many bytes. Returns for each of its records the number of the
-    record that it is of, and whether that was cut."""
+def cut(capture, size, uncut, path):
+    """Writes a file whose datagrams have at most so many bytes, or as many as aren't cut. Returns for each of its
+    records the number of the record that it is of, and whether that was cut."""
     data, numbers = Path(capture).read_bytes(), []
     with open(path, "wb") as file:
         file.write(data[:FILE])
         for number, ((seconds, parts, _, _), frame) in enumerate(records(data), 1):
             payload = frame[HEADERS:]
-            pieces = [payload[at : at + size] for at in range(0, len(payload), size)]
+            most = size if len(payload) > uncut else uncut
+            pieces = [payload[at : at + most] for at in range(0, len(payload), most)]
             for piece in pieces:
                 made = with_payload(frame, piece)
                 file.write(struct.pack("=IIII", seconds, parts, len(made), len(made)) + made)

@@ -10,7 +10,7 @@ use crate::opened::{Opened, Reset, Retried, id_of, space_and_type};
 use crate::recovery::Outcome;
 use crate::search::{Found, Source};
 use crate::sink::{Ended, Event, Unopened};
-use crate::tls::{HelloAgain, Said};
+use crate::tls::{CryptoStream, HelloAgain, Said};
 use quic_wire::datagram::{HeaderKind, PacketRef};
 use quic_wire::fields;
 use quic_wire::frame::{Ack, Close, Crypto, Frame, Iter, Rules};
@@ -117,6 +117,25 @@ impl Connection {
             self.ends[found.source().label.sender() as usize].expect(space, found.number());
         }
         self.keys.adopt(found);
+    }
+
+    /// How many bytes it keeps of messages that aren't whole, about.
+    pub(crate) fn held(&self) -> usize {
+        let again = self.again.as_ref().map_or(0, |again| again.held());
+        self.ends.iter().flat_map(|end| &end.crypto).map(CryptoStream::held).sum::<usize>() + again
+    }
+
+    /// Gives up the messages that aren't whole.
+    pub(crate) fn give_up_messages(&mut self) {
+        self.again = self.again.take().filter(|again| again.held() == 0);
+        let streams = self.ends.iter_mut().flat_map(|end| &mut end.crypto);
+        streams.filter(|stream| stream.held() > 0).for_each(CryptoStream::give_up);
+    }
+
+    /// Forgets all packets of each number space but the latest.
+    pub(crate) fn remember(&mut self, most: usize) {
+        self.most_packets = most;
+        self.ends.iter_mut().flat_map(|end| &mut end.recovery.spaces).for_each(|space| space.remember(most));
     }
 
     /// Whether no 1-RTT packet of a side was opened.

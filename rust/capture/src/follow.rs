@@ -2,7 +2,6 @@
 
 use crate::capture::Datagram;
 use crate::connection::Connection;
-use crate::end::MOST_PACKETS;
 use crate::held::Waiting;
 use crate::index::{Index, Owner};
 use crate::keylog::KeyLog;
@@ -10,25 +9,19 @@ use crate::keyring::{CHECKS, MOST_USUAL, Offloaded};
 use crate::keys::VERSIONS;
 use crate::opened::{Reset, Retried, id_of};
 use crate::search::Found;
-use crate::sink::{Ended, Event, Rest, Sink, Unopened};
+use crate::sink::{Event, Rest, Sink, Unopened};
 use earlier::Strays;
 use quic_wire::datagram::{HeaderError, HeaderKind, PacketRef, Packets};
 use quic_wire::packet::LONG_HEADER_FORM;
 use quic_wire::{ConnectionId, Side};
+use room::Room;
 use std::collections::BTreeMap;
 
 mod earlier;
+mod room;
 
-/// How many connections are followed at once. For a further one others are forgotten, first those without a Handshake
-/// packet that was opened, then those that said nothing for the longest time.
-pub const MOST_CONNECTIONS: usize = 1 << 15;
-
-/// How many packets of each number space are remembered: so many of all connections together, but at least some.
-const MOST_REMEMBERED: usize = 1 << 18;
-const LEAST_REMEMBERED: usize = 32;
-
-// After how many datagrams connections that ended are looked for, at least.
-const SWEEP: usize = 1 << 10;
+pub use earlier::MOST_TRIALS;
+pub use room::{MOST_BEGUN, MOST_CONNECTIONS, MOST_HELD};
 
 /// What was counted besides.
 #[derive(Clone, Debug, Default, PartialEq, Eq)]
@@ -69,12 +62,12 @@ pub struct Follower {
     /// The secrets. It may grow at any time.
     pub keylog: KeyLog,
     connections: BTreeMap<usize, Box<Connection>>,
+    room: Room,
     index: Index,
     waiting: Waiting,
     strays: Strays,
     counts: Counts,
     packets: u64,
-    since_sweep: usize,
     buffer: Vec<u8>,
 }
 
@@ -104,11 +97,15 @@ impl Follower {
         if owners.is_empty() && first & LONG_HEADER_FORM == 0 && may_be_several(datagram, id_len) {
             (owners, id_len) = self.near_offloaded(datagram).unwrap_or((owners, id_len));
         }
-        let size = self.segment_len(datagram, &owners, id_len).unwrap_or(datagram.bytes.len());
-        for segment in datagram.bytes.chunks(size) {
-            let course = Course { owners: owners.clone(), first_id: None };
-            self.segment(&Datagram { bytes: segment, ..*datagram }, course, id_len, sink);
+        let size = self.segment_len(datagram, &owners, id_len).or_else(|| self.padded_len(datagram, id_len));
+        let size = size.unwrap_or(datagram.bytes.len());
+        for bytes in datagram.bytes.chunks(size) {
+            let segment = Datagram { bytes, ..*datagram };
+            // A connection may begin with the first of them.
+            let owners = if owners.is_empty() { self.owners(&segment, bytes[0]).0 } else { owners.clone() };
+            self.segment(&segment, Course { owners, first_id: None }, id_len, sink);
         }
+        self.give_up_messages(sink);
     }
 
     /// Ends the capture: 0-RTT packets that still wait are given up.
@@ -119,27 +116,50 @@ impl Follower {
     }
 
     // Whose a datagram may be, and how many bytes the ids of its short headers have.
-    fn owners(&self, datagram: &Datagram<'_>, first: u8) -> (Vec<Owner>, usize) {
-        let is_long = first & LONG_HEADER_FORM != 0;
-        let (mut owners, id_len) = if is_long {
-            let id = quic_wire::datagram::receiver_id(datagram.bytes, 0).filter(|id| id.len() <= 20).unwrap_or(&[]);
-            (self.index.to_id(id).to_vec(), id.len())
-        } else {
-            let (owners, id_len) = self.index.to_short(datagram.bytes);
-            (owners.to_vec(), id_len)
-        };
-        if owners.is_empty() {
-            // A short header without an id is only that of a receiver whose ids have no bytes.
-            let has_no_id = |(number, sender): &Owner| {
-                self.connections
-                    .get(number)
-                    .is_some_and(|one| one.end(!*sender).first_scid().is_some_and(|id| id.is_empty()))
-            };
-            let on_path = self.index.on_path((datagram.from, datagram.to));
-            owners = on_path.filter(|owner| is_long || has_no_id(owner)).collect();
+    fn owners(&mut self, datagram: &Datagram<'_>, first: u8) -> (Vec<Owner>, usize) {
+        if first & LONG_HEADER_FORM == 0 {
+            return self.owners_of_short(datagram);
         }
-        owners.retain(|(number, _)| self.connections.get(number).is_some_and(|one| one.ended(datagram.time).is_none()));
-        (owners, id_len)
+        let id = quic_wire::datagram::receiver_id(datagram.bytes, 0).filter(|id| id.len() <= 20).unwrap_or(&[]);
+        let mut owners = self.index.to_id(id).to_vec();
+        if owners.is_empty() {
+            owners = self.index.on_path((datagram.from, datagram.to)).collect();
+        }
+        owners.retain(|owner| self.is_live(owner, datagram));
+        (owners, id.len())
+    }
+
+    // The ids of several connections may be those of a short header, since anyone chooses ids of any length: those of
+    // which one opens it are its owners. Without an id it is only that of a receiver whose ids have no bytes.
+    fn owners_of_short(&mut self, datagram: &Datagram<'_>) -> (Vec<Owner>, usize) {
+        let has_no_id = |(number, sender): &Owner| {
+            let connection = self.connections.get(number);
+            connection.is_some_and(|one| one.end(!*sender).first_scid().is_some_and(|id| id.is_empty()))
+        };
+        let by_path: Vec<_> = self.index.on_path((datagram.from, datagram.to)).filter(has_no_id).collect();
+        let by_id = self.index.to_short(datagram.bytes).map(|(owners, id_len)| (owners.to_vec(), id_len));
+        let mut all: Vec<_> = by_id.chain([(by_path, 0)]).collect();
+        let longest = all.first().map_or(0, |(_, id_len)| *id_len);
+        all.iter_mut().for_each(|(owners, _)| owners.retain(|owner| self.is_live(owner, datagram)));
+        all.retain(|(owners, _)| !owners.is_empty());
+        let is_one = all.len() <= 1;
+        let opening = all.iter().position(|(owners, id_len)| is_one || self.opens(datagram, owners, *id_len));
+        let place = opening.unwrap_or(0);
+        if all.is_empty() { (Vec::new(), longest) } else { all.swap_remove(place) }
+    }
+
+    fn is_live(&self, (number, _): &Owner, datagram: &Datagram<'_>) -> bool {
+        self.connections.get(number).is_some_and(|one| one.ended(datagram.time).is_none())
+    }
+
+    // Whether a short header's packet, or the first of several, is one of these senders.
+    fn opens(&mut self, datagram: &Datagram<'_>, owners: &[Owner], id_len: usize) -> bool {
+        let Follower { connections, keylog, buffer, .. } = self;
+        owners.iter().any(|(number, sender)| {
+            let offloaded = Offloaded { bytes: datagram.bytes, begin: 0, id_len, sender: *sender };
+            let connection = connections.get_mut(number);
+            connection.is_some_and(|one| one.segment_len(offloaded, keylog, buffer).is_some())
+        })
     }
 
     // The size of the segments of a datagram that has several.
@@ -157,11 +177,36 @@ impl Follower {
             let offloaded = Offloaded { bytes, begin, id_len, sender: *sender };
             connections.get_mut(number)?.segment_len(offloaded, keylog, buffer)
         })?;
-        if size < bytes.len() {
-            self.counts.offloaded += 1;
-            self.counts.segments += bytes.len().div_ceil(size) as u64;
-        }
+        self.count_segments(bytes.len(), size);
         Some(size)
+    }
+
+    // The same of one whose first segment has only long headers: if that is padded, zeros are between its packets and
+    // the next segment's.
+    fn padded_len(&mut self, datagram: &Datagram<'_>, id_len: usize) -> Option<usize> {
+        let bytes = datagram.bytes;
+        if datagram.missing > 0 || bytes.len() <= MOST_USUAL {
+            return None;
+        }
+        let packets = |from: usize| {
+            let all = Packets::with_checks(bytes.get(from..).unwrap_or_default(), id_len, &VERSIONS, CHECKS);
+            all.map_while(Result::ok).filter(|packet| !packet.header().is_short())
+        };
+        let id = id_of(packets(0).next()?.dst_cid());
+        let end = packets(0).take_while(|packet| id_of(packet.dst_cid()) == id).last()?.place().range().end;
+        let size = end + bytes.get(end..)?.iter().position(|byte| *byte != 0)?;
+        if size == end || id_of(packets(size).next()?.dst_cid()) != id {
+            return None;
+        }
+        self.count_segments(bytes.len(), size);
+        Some(size)
+    }
+
+    fn count_segments(&mut self, len: usize, size: usize) {
+        if size < len {
+            self.counts.offloaded += 1;
+            self.counts.segments += len.div_ceil(size) as u64;
+        }
     }
 
     // Takes the packets of a datagram.
@@ -230,14 +275,19 @@ impl Follower {
         sink: &mut dyn Sink,
     ) -> Option<Owner> {
         let mut buffer = std::mem::take(&mut self.buffer);
-        let most_packets = MOST_REMEMBERED / self.connections.len().max(1);
+        let most_packets = self.most_packets();
         let opened_by = owners.iter().copied().find(|(number, sender)| {
             let Follower { connections, keylog, .. } = self;
             let Some(connection) = connections.get_mut(number) else { return false };
             let Some(opened) = connection.open(packet, *sender, keylog, &mut buffer) else { return false };
-            connection.most_packets = most_packets.clamp(LEAST_REMEMBERED, MOST_PACKETS);
-            if let Some(ids) = take(connection, &opened, datagram, self.packets, sink) {
+            connection.most_packets = most_packets;
+            self.room.leave(connection);
+            let ids = take(connection, &opened, datagram, self.packets, sink);
+            if ids.is_some() {
                 self.strays.name(connection, opened.kind());
+            }
+            self.room.enter(connection);
+            if let Some(ids) = ids {
                 self.learn((*number, *sender), datagram, &ids);
             }
             true
@@ -275,6 +325,7 @@ impl Follower {
         self.counts.opened += 1;
         self.packets += 1;
         self.make_room(sink);
+        self.room.enter(&connection);
         let first_dcid = *connection.first_dcid();
         self.connections.insert(number, Box::new(connection));
         self.learn(owner, datagram, &ids);
@@ -358,43 +409,12 @@ impl Follower {
 
     // Learns the ids and the path of a connection, from what was authentic.
     fn learn(&mut self, (number, sender): Owner, datagram: &Datagram<'_>, ids: &[(ConnectionId, Side)]) {
+        let most = self.most_paths();
         let Follower { connections, index, .. } = self;
-        let is_weak = |number| connections.get(&number).is_none_or(|one| !one.end(Side::Server).has_handshake());
+        let is_weak = |number| connections.get(&number).is_none_or(|one| !one.is_named);
         ids.iter().for_each(|(id, chosen_by)| index.add_id(*id, (number, !*chosen_by), is_weak));
-        index.add_path((datagram.from, datagram.to), (number, sender), is_weak);
-        index.add_path((datagram.to, datagram.from), (number, !sender), is_weak);
-    }
-
-    // Forgets the connections that ended, now and then.
-    fn sweep(&mut self, now: u64, sink: &mut dyn Sink) {
-        self.since_sweep += 1;
-        if self.since_sweep < SWEEP.max(self.connections.len()) {
-            return;
-        }
-        self.since_sweep = 0;
-        let ended: Vec<_> =
-            self.connections.iter().filter_map(|(number, one)| Some((*number, one.ended(now)?))).collect();
-        ended.into_iter().for_each(|(number, how)| self.forget(number, how, sink));
-    }
-
-    // Forgets a quarter of the connections if there are too many.
-    fn make_room(&mut self, sink: &mut dyn Sink) {
-        if self.connections.len() < MOST_CONNECTIONS {
-            return;
-        }
-        let rank = |one: &Connection| (one.end(Side::Server).has_handshake(), one.times().1);
-        let mut ranked: Vec<_> = self.connections.iter().map(|(number, one)| (rank(one), *number)).collect();
-        ranked.sort_unstable();
-        ranked.truncate(MOST_CONNECTIONS / 4);
-        ranked.into_iter().for_each(|(_, number)| self.forget(number, Ended::Crowded, sink));
-    }
-
-    fn forget(&mut self, number: usize, how: Ended, sink: &mut dyn Sink) {
-        self.index.forget(number);
-        if let Some(connection) = self.connections.remove(&number) {
-            self.strays.forget(&connection, how, &mut self.keylog);
-            sink.ended(&connection, how);
-        }
+        index.add_path((datagram.from, datagram.to), (number, sender), most, is_weak);
+        index.add_path((datagram.to, datagram.from), (number, !sender), most, is_weak);
     }
 }
 

@@ -24,10 +24,13 @@ impl Waiting {
     // Takes a fragment, and returns whether the packet can still become whole.
     fn take(&mut self, fragment: Fragment, bytes: &[u8]) -> bool {
         let (begin, end) = (fragment.offset, fragment.offset + bytes.len());
-        if end > MOST_BYTES || self.end.is_some_and(|whole| end > whole || (!fragment.has_more && end != whole)) {
+        let is_last = !fragment.has_more;
+        let last_end = self.pieces.last().map_or(0, |(offset, piece)| offset + piece.len());
+        let is_beyond = self.end.is_some_and(|whole| end > whole || (is_last && end != whole));
+        if end > MOST_BYTES || is_beyond || (is_last && end < last_end) {
             return false;
         }
-        if !fragment.has_more {
+        if is_last {
             self.end = Some(end);
         }
         match self.pieces.binary_search_by_key(&begin, |(offset, _)| *offset) {

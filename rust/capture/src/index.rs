@@ -7,8 +7,8 @@ use std::net::SocketAddr;
 /// How many connections may share an id or a pair of addresses, and are tried.
 const MOST_OWNERS: usize = 8;
 
-/// How many ids, and pairs of addresses, of a connection are remembered, the latest.
-const MOST_PLACES: usize = 256;
+/// How many ids, and at most how many pairs of addresses, of a connection are remembered, the latest.
+pub(crate) const MOST_PLACES: usize = 256;
 
 /// From whom, to whom.
 pub(crate) type Path = (SocketAddr, SocketAddr);
@@ -40,12 +40,11 @@ impl Index {
         id.and_then(|id| self.by_id.get(&id)).map_or(&[], Vec::as_slice)
     }
 
-    /// The senders of packets to the id of a short header, and how many bytes it has: the longest that is known.
-    pub(crate) fn to_short(&self, packet: &[u8]) -> (&[Owner], usize) {
-        let ids = (1..self.lens.len()).rev().filter(|&len| self.lens[len] > 0);
-        ids.filter_map(|len| Some((self.to_id(packet.get(1..1 + len)?), len)))
-            .find(|(owners, _)| !owners.is_empty())
-            .unwrap_or((&[], 0))
+    /// The senders of packets to the ids that a short header may have, and their lengths, the longest first.
+    pub(crate) fn to_short<'a>(&'a self, packet: &'a [u8]) -> impl Iterator<Item = (&'a [Owner], usize)> {
+        let lens = (1..self.lens.len()).rev().filter(move |&len| self.lens[len] > 0);
+        let owners = lens.filter_map(move |len| Some((self.to_id(packet.get(1..1 + len)?), len)));
+        owners.filter(|(owners, _)| !owners.is_empty())
     }
 
     /// The senders on a path, the latest first.
@@ -58,7 +57,7 @@ impl Index {
         if id.is_empty() {
             return;
         }
-        let owners = self.by_id.entry(id).or_default();
+        let owners = self.by_id.entry(id).or_insert_with(|| Vec::with_capacity(1));
         if owners.contains(&owner) {
             return;
         }
@@ -71,9 +70,9 @@ impl Index {
         }
     }
 
-    /// Adds the addresses between which a connection's packets are sent.
-    pub(crate) fn add_path(&mut self, path: Path, owner: Owner, is_weak: impl Fn(usize) -> bool) {
-        let owners = self.by_path.entry(path).or_default();
+    /// Adds the addresses between which a connection's packets are sent. So many of the connection are remembered.
+    pub(crate) fn add_path(&mut self, path: Path, owner: Owner, most: usize, is_weak: impl Fn(usize) -> bool) {
+        let owners = self.by_path.entry(path).or_insert_with(|| Vec::with_capacity(1));
         if owners.last() == Some(&owner) {
             return;
         }
@@ -83,11 +82,18 @@ impl Index {
         if !is_new {
             return;
         }
-        let paths = &mut self.of.entry(owner.0).or_default().paths;
-        paths.push_back((path, owner.1));
-        if let Some((path, side)) = Some(MOST_PLACES).filter(|most| paths.len() > *most).and_then(|_| paths.pop_front())
-        {
-            self.remove_path(path, (owner.0, side));
+        self.of.entry(owner.0).or_default().paths.push_back((path, owner.1));
+        self.remember(owner.0, most);
+    }
+
+    /// Forgets all pairs of addresses of a connection but the latest.
+    pub(crate) fn remember(&mut self, connection: usize, most: usize) {
+        while let Some(places) = self.of.get_mut(&connection).filter(|places| places.paths.len() > most) {
+            let Some((path, side)) = places.paths.pop_front() else { return };
+            if places.paths.capacity() > 4 * most {
+                places.paths.shrink_to(most);
+            }
+            self.remove_path(path, (connection, side));
         }
     }
 
@@ -116,7 +122,7 @@ impl Index {
     }
 }
 
-// Anyone can begin a connection, and only its ends get to a handshake: one without makes room first, then the oldest.
+// Anyone can begin a connection, and only its ends have the secrets: one without makes room first, then the oldest.
 fn push(owners: &mut Vec<Owner>, owner: Owner, is_weak: impl Fn(usize) -> bool) {
     if owners.len() >= MOST_OWNERS {
         owners.remove(owners.iter().position(|(connection, _)| is_weak(*connection)).unwrap_or(0));
@@ -133,22 +139,24 @@ mod tests {
     }
 
     #[test]
-    fn the_longest_known_id_of_a_short_header() {
+    fn the_known_ids_of_a_short_header() {
         let mut index = Index::default();
         index.add_id(ConnectionId::new(&[1, 2]), (0, Side::Client), |_| false);
         index.add_id(ConnectionId::new(&[1, 2, 3]), (1, Side::Server), |_| false);
-        assert_eq!(index.to_short(&[0x40, 1, 2, 3, 4]), (&[(1, Side::Server)][..], 3));
-        assert_eq!(index.to_short(&[0x40, 1, 2, 4]), (&[(0, Side::Client)][..], 2));
-        assert_eq!(index.to_short(&[0x40, 1]), (&[][..], 0));
+        let (one, two) = ((&[(0, Side::Client)][..], 2), (&[(1, Side::Server)][..], 3));
+        let all = |index: &Index, packet: &[u8]| index.to_short(packet).map(|(_, len)| len).collect::<Vec<_>>();
+        assert_eq!(index.to_short(&[0x40, 1, 2, 3, 4]).collect::<Vec<_>>(), [two, one]);
+        assert_eq!(index.to_short(&[0x40, 1, 2, 4]).collect::<Vec<_>>(), [one]);
+        assert_eq!(all(&index, &[0x40, 1]), [0; 0]);
         index.forget(1);
-        assert_eq!(index.to_short(&[0x40, 1, 2, 3, 4]), (&[(0, Side::Client)][..], 2));
+        assert_eq!(all(&index, &[0x40, 1, 2, 3, 4]), [2]);
     }
 
     #[test]
-    fn those_without_a_handshake_make_room() {
+    fn those_that_anyone_began_make_room() {
         let mut index = Index::default();
         for connection in 0..100 {
-            index.add_path(path(1), (connection, Side::Client), |one| one != 3);
+            index.add_path(path(1), (connection, Side::Client), MOST_PLACES, |one| one != 3);
             index.add_id(ConnectionId::new(&[7; 8]), (connection, Side::Client), |one| one != 3);
         }
         let owners: Vec<_> = index.on_path(path(1)).map(|owner| owner.0).collect();
@@ -160,10 +168,13 @@ mod tests {
     fn a_connection_has_so_many_places() {
         let mut index = Index::default();
         for n in 0..2000u16 {
-            index.add_path(path(n), (0, Side::Client), |_| false);
+            index.add_path(path(n), (0, Side::Client), MOST_PLACES, |_| false);
             index.add_id(ConnectionId::new(&n.to_be_bytes()), (0, Side::Client), |_| false);
         }
         assert_eq!((index.by_path.len(), index.by_id.len()), (MOST_PLACES, MOST_PLACES));
+        index.remember(0, 3);
+        assert_eq!(index.on_path(path(1996)).count() + index.on_path(path(1997)).count(), 1);
+        assert_eq!((index.by_path.len(), index.by_id.len()), (3, MOST_PLACES));
         index.forget(0);
         assert_eq!((index.by_path.len(), index.by_id.len(), index.lens), (0, 0, [0; 21]));
     }

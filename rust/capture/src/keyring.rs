@@ -115,7 +115,8 @@ impl Keyring {
         }
     }
 
-    /// After a Retry, Initial packets have keys of its id, except those of the client that came late.
+    /// After a Retry that the client took, Initial packets have keys of its id, except those of the client that came
+    /// late.
     pub(crate) fn retry(&mut self, retried: &Retried) {
         self.retry_id = Some(retried.id());
     }
@@ -145,7 +146,7 @@ impl Keyring {
     ) -> Option<Opened<'a>> {
         let (header, sender) = (candidate.packet.header(), candidate.sender);
         let (slot, label) = match (header.kind(), sender) {
-            (HeaderKind::Initial, _) => return candidate.open(self.initial(&candidate)?, buffer),
+            (HeaderKind::Initial, _) => return self.open_initial(candidate, buffer),
             (HeaderKind::Short, _) => {
                 let opened = self.open_short(candidate, known, buffer);
                 if self.phases.iter().all(Option::is_some) {
@@ -169,13 +170,22 @@ impl Keyring {
         opened
     }
 
-    fn initial(&mut self, candidate: &Candidate<'_>) -> Option<&PacketKeys> {
-        let (packet, sender) = (&candidate.packet, candidate.sender);
-        let is_first = sender == Side::Client && packet.dst_cid() == self.first_id.as_slice();
-        let id = self.retry_id.filter(|_| !is_first).unwrap_or(self.first_id);
-        let key = (packet.header().version(), sender, id);
+    // Packets that the client sent before a Retry may come late. Anyone who saw them can make a Retry too, which the
+    // client may have discarded.
+    fn open_initial<'a>(&mut self, candidate: Candidate<'a>, buffer: &'a mut Vec<u8>) -> Option<Opened<'a>> {
+        let key = |id| (candidate.packet.header().version(), candidate.sender, id);
+        let retried = self.retry_id.map(key).filter(|retried| {
+            let keys = self.initial(*retried);
+            keys.is_some_and(|keys| candidate.is_opened_by(keys, buffer))
+        });
+        let first = key(self.first_id);
+        candidate.open(self.initial(retried.unwrap_or(first))?, buffer)
+    }
+
+    fn initial(&mut self, key: InitialKey) -> Option<&PacketKeys> {
         if !self.initial.iter().any(|(of, _)| *of == key) {
-            self.initial.push((key, PacketKeys::initial(key.0, &id, sender)?));
+            let (version, sender, id) = key;
+            self.initial.push((key, PacketKeys::initial(version, &id, sender)?));
         }
         self.initial.iter().find(|(of, _)| *of == key).map(|(_, keys)| keys)
     }
@@ -188,11 +198,7 @@ impl Keyring {
     ) -> Option<Opened<'a>> {
         let slot = &mut self.phases[candidate.sender as usize];
         if slot.is_none() {
-            let label = if candidate.sender == Side::Client { Label::ClientTraffic } else { Label::ServerTraffic };
-            // Packets that say the version, and those before the first update, may be missing.
-            let [one, two] = VERSIONS;
-            let versions = if known.version == two { [two, one] } else { [one, two] };
-            let mut phases = keys_of(known, versions, label).map(Phase::new);
+            let mut phases = first_phases(known, candidate.sender);
             let phase = phases.find_map(|mut phase| phase.open(candidate, buffer).is_some().then_some(phase))?;
             *slot = Some(Box::new(phase));
         }
@@ -210,11 +216,24 @@ impl Keyring {
         buffer: &mut Vec<u8>,
     ) -> Option<usize> {
         let Offloaded { bytes, begin, id_len, sender } = datagram;
-        let size = datagram.sizes(self.segments[sender as usize]).find(|size| {
-            let segment = Packets::with_checks(&bytes[begin..*size], id_len, &VERSIONS, CHECKS).next();
-            let Some(Ok(packet)) = segment else { return false };
-            self.open_short(Candidate { packet, sender, expected }, known, buffer).is_some()
-        })?;
+        let last = self.segments[sender as usize];
+        let mut size_by = |phase: &mut Phase| {
+            datagram.sizes(last).find(|size| {
+                let segment = Packets::with_checks(&bytes[begin..*size], id_len, &VERSIONS, CHECKS).next();
+                let Some(Ok(packet)) = segment else { return false };
+                phase.open(Candidate { packet, sender, expected }, buffer).is_some()
+            })
+        };
+        let slot = &mut self.phases[sender as usize];
+        let size = match slot {
+            Some(phase) => size_by(phase)?,
+            None => {
+                let mut phases = first_phases(known, sender);
+                let (size, phase) = phases.find_map(|mut phase| Some((size_by(&mut phase)?, phase)))?;
+                *slot = Some(Box::new(phase));
+                size
+            }
+        };
         if size < bytes.len() {
             self.segments[sender as usize] = size;
         }
@@ -248,10 +267,22 @@ impl Phase {
     }
 }
 
-// The keys of a secret, with each version and suite that the connection may have.
+// The keys that a side's 1-RTT packets may have. Packets that say the version, and those before the first update, may
+// be missing.
+fn first_phases(known: &Known<'_>, sender: Side) -> impl Iterator<Item = Phase> {
+    let label = if sender == Side::Client { Label::ClientTraffic } else { Label::ServerTraffic };
+    let [one, two] = VERSIONS;
+    let versions = if known.version == two { [two, one] } else { [one, two] };
+    keys_of(known, versions, label).map(Phase::new)
+}
+
+// The keys of a secret, with each version and suite that the connection may have, first the suite that the server
+// named: anyone who saw the client's first packet can name another.
 fn keys_of<const N: usize>(known: &Known<'_>, versions: [u32; N], label: Label) -> impl Iterator<Item = PacketKeys> {
-    let secret = known.random.and_then(|random| known.keylog.secret(random, label));
-    let suites = Suite::ALL.into_iter().filter(|suite| known.suite.is_none_or(|number| number == suite.number()));
-    let kinds = suites.flat_map(move |suite| versions.map(|version| (suite, version)));
+    let is_read = known.suite.is_none_or(|number| Suite::of(number).is_some());
+    let secret = known.random.filter(|_| is_read).and_then(|random| known.keylog.secret(random, label));
+    let mut suites = Suite::ALL;
+    suites.sort_by_key(|suite| known.suite != Some(suite.number()));
+    let kinds = suites.into_iter().flat_map(move |suite| versions.map(|version| (suite, version)));
     kinds.filter_map(move |(suite, version)| PacketKeys::new(secret?, suite, version))
 }

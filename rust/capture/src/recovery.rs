@@ -5,12 +5,15 @@ use quic_wire::Side;
 use quic_wire::frame::Ack;
 use quic_wire::ids::SpaceId;
 use quic_wire::range_set::ArrayRangeSet;
-use std::collections::{BTreeSet, VecDeque};
+use std::collections::VecDeque;
+use std::ops::RangeInclusive;
 
 /// How many packets of a number space are remembered at most.
 pub const MOST_PACKETS: usize = 1 << 14;
 
-/// How many runs of numbers are remembered. A number below them counts as sent before.
+/// How many runs of numbers are remembered: as many as packets, but at least and at most some. A number below them
+/// counts as sent before.
+const LEAST_RUNS: usize = 1 << 4;
 const MOST_RUNS: usize = 1 << 8;
 
 /// A packet counts as lost once one with a number this much greater is acknowledged (RFC 9002, section 6.1.1).
@@ -101,6 +104,36 @@ pub(crate) enum Outcome {
     Lost(Sent),
 }
 
+/// Numbers of packets in their order. Most are added at the end and removed near the front.
+#[derive(Default)]
+struct Numbers(VecDeque<u64>);
+
+impl Numbers {
+    fn insert(&mut self, number: u64) {
+        if let Err(place) = self.0.binary_search(&number) {
+            self.0.insert(place, number);
+        }
+    }
+
+    // Whether it was there.
+    fn remove(&mut self, number: u64) -> bool {
+        self.0.binary_search(&number).is_ok_and(|place| self.0.remove(place).is_some())
+    }
+
+    fn contains(&self, number: u64) -> bool {
+        self.0.binary_search(&number).is_ok()
+    }
+
+    fn below(&self, bound: u64) -> Vec<u64> {
+        self.0.range(..self.0.partition_point(|number| *number < bound)).copied().collect()
+    }
+
+    fn within(&self, range: RangeInclusive<u64>) -> Vec<u64> {
+        let from = self.0.partition_point(|number| number < range.start());
+        self.0.range(from..).take_while(|number| *number <= range.end()).copied().collect()
+    }
+}
+
 /// The packets of a side in a number space.
 #[derive(Default)]
 pub(crate) struct Space {
@@ -110,9 +143,9 @@ pub(crate) struct Space {
     used: ArrayRangeSet,
     floor: u64,
     /// Those of `sent` that weren't acknowledged.
-    open: BTreeSet<u64>,
+    open: Numbers,
     /// Of these, those that elicit an acknowledgment and don't count as lost.
-    waiting: BTreeSet<u64>,
+    waiting: Numbers,
     pub(crate) largest: Option<u64>,
     pub(crate) acknowledged: Option<u64>,
     /// When the next one counts as lost.
@@ -140,27 +173,53 @@ impl Space {
 
     /// Adds a packet whose number wasn't used before. Only so many are remembered.
     pub(crate) fn add(&mut self, sent: Sent, most: usize) {
-        while self.sent.len() >= most.max(1) {
-            let Some(Sent { number, .. }) = self.sent.pop_front() else { break };
-            self.open.remove(&number);
-            self.waiting.remove(&number);
-        }
-        if self.sent.capacity() > 4 * most {
-            self.sent.shrink_to(most);
+        self.remember_packets(most.saturating_sub(1));
+        // Most spaces have one packet or two.
+        if self.sent.len() == self.sent.capacity() {
+            self.sent.reserve_exact(self.sent.len().max(1));
         }
         self.used.insert_one(sent.number);
-        if self.used.len() > MOST_RUNS {
-            self.floor = self.used.pop_min().map_or(self.floor, |run| run.end);
-        }
+        self.remember_runs(most);
         self.open.insert(sent.number);
         self.largest = self.largest.max(Some(sent.number));
         let place = self.place(sent.number).unwrap_or_else(|place| place);
         self.sent.insert(place, sent);
     }
 
+    // Whether there were more.
+    fn remember_runs(&mut self, most: usize) -> bool {
+        let before = self.used.len();
+        while self.used.len() > most.clamp(LEAST_RUNS, MOST_RUNS) {
+            self.floor = self.used.pop_min().map_or(self.floor, |run| run.end);
+        }
+        self.used.len() < before
+    }
+
+    /// Forgets all packets and runs of numbers but the latest.
+    pub(crate) fn remember(&mut self, most: usize) {
+        if self.remember_runs(most) {
+            // In as little memory as they need.
+            self.used = self.used.iter().collect();
+        }
+        self.remember_packets(most);
+    }
+
+    fn remember_packets(&mut self, most: usize) {
+        while self.sent.len() > most {
+            let Some(Sent { number, .. }) = self.sent.pop_front() else { break };
+            self.open.remove(number);
+            self.waiting.remove(number);
+        }
+        if self.sent.capacity() > 4 * (most + 1) {
+            self.sent.shrink_to(most + 1);
+            self.open.0.shrink_to(most + 1);
+            self.waiting.0.shrink_to(most + 1);
+        }
+    }
+
     /// Notes that a packet elicits an acknowledgment.
     pub(crate) fn add_waiting(&mut self, number: u64) {
-        if self.open.contains(&number) {
+        if self.open.contains(number) {
             self.waiting.insert(number);
         }
     }
@@ -170,10 +229,9 @@ impl Space {
     fn take_ranges(&mut self, ack: &Ack<'_>, now: u64, outcomes: &mut Vec<Outcome>) -> Option<u64> {
         let (mut elicits, mut sample) = (false, None);
         for range in ack {
-            let numbers: Vec<u64> = self.open.range(range).copied().collect();
-            for number in numbers {
-                self.open.remove(&number);
-                let was_waiting = self.waiting.remove(&number);
+            for number in self.open.within(range) {
+                self.open.remove(number);
+                let was_waiting = self.waiting.remove(number);
                 let Some(sent) = self.sent_mut(number) else { continue };
                 sent.acknowledged = Some(now);
                 elicits |= was_waiting || sent.lost.is_some();
@@ -190,8 +248,7 @@ impl Space {
     fn detect(&mut self, now: u64, threshold: u64, outcomes: &mut Vec<Outcome>) {
         self.loss_time = None;
         let Some(acknowledged) = self.acknowledged else { return };
-        let before: Vec<u64> = self.waiting.range(..acknowledged).copied().collect();
-        for number in before {
+        for number in self.waiting.below(acknowledged) {
             let Some(sent) = self.sent_mut(number) else { continue };
             let due = sent.time.saturating_add(threshold);
             let by = match acknowledged - number {
@@ -204,7 +261,7 @@ impl Space {
             };
             sent.lost = Some(Loss { time: now, by });
             outcomes.push(Outcome::Lost(*sent));
-            self.waiting.remove(&number);
+            self.waiting.remove(number);
         }
     }
 }

@@ -161,9 +161,15 @@ pub(crate) struct Search<'a> {
     pub(crate) buffer: &'a mut Vec<u8>,
     /// What it cost so far, in trials of opening a packet of 1,024 bytes.
     pub(crate) cost: u64,
+    /// With what cost it ends.
+    pub(crate) most: u64,
 }
 
 impl Search<'_> {
+    fn is_over(&self) -> bool {
+        self.cost >= self.most
+    }
+
     /// Tries keys on a packet with a short header.
     pub(crate) fn short(&mut self, stray: &Stray<'_>, sources: impl Iterator<Item = Source>) -> Option<Found> {
         let Stray { datagram, before, acknowledged, ref id_lens } = *stray;
@@ -192,6 +198,9 @@ impl Search<'_> {
     ) -> Vec<Guess> {
         let (mut guesses, mut header) = (Vec::new(), Vec::new());
         for source in sources.take_while(|_| !readings.is_empty()) {
+            if self.is_over() {
+                break;
+            }
             self.cost += MASK_COST;
             let Some(mask) = source.mask(self.keylog) else { continue };
             let mut fits = |packet: &PacketRef<'_>| has_zero_bits(&mask, packet, &mut header);
@@ -213,6 +222,9 @@ impl Search<'_> {
         acknowledged: Option<u64>,
         trials: usize,
     ) -> Option<Found> {
+        if self.is_over() {
+            return None;
+        }
         self.cost += KEYS_COST;
         let Guess { source, id_len, .. } = *guess;
         let first = source.keys(self.keylog)?;
@@ -228,6 +240,9 @@ impl Search<'_> {
         let window = 1u64 << (8 * number.number_len);
         let highs = (0..trials.div_ceil(phases) as u64).map(|high| number.number + high * window);
         for expected in acknowledged.into_iter().chain(highs) {
+            if self.is_over() {
+                return None;
+            }
             let candidate = Candidate { packet, sender: source.label.sender(), expected };
             self.cost += (keys.len() * (1 + packet.data().len() / 1024)) as u64;
             if let Some((at, number)) = self.opens(candidate, &keys) {
@@ -246,6 +261,9 @@ impl Search<'_> {
     /// Tries keys on a packet with a long header.
     pub(crate) fn long(&mut self, packet: PacketRef<'_>, mut sources: impl Iterator<Item = Source>) -> Option<Found> {
         sources.find_map(|source| {
+            if self.is_over() {
+                return None;
+            }
             self.cost += KEYS_COST;
             let keys = source.keys(self.keylog)?;
             let number = *Unmasked::new(&keys, packet, 0, self.buffer)?.number();

@@ -3,8 +3,10 @@
 
 use std::collections::BTreeMap;
 
-/// The most bytes of CRYPTO data that wait for their message to be whole.
+/// The most bytes of CRYPTO data that wait for their message to be whole, and how many each piece counts besides its
+/// own.
 const MOST_BYTES: usize = 1 << 18;
+const PIECE: usize = 64;
 
 const CLIENT_HELLO: u8 = 1;
 const SERVER_HELLO: u8 = 2;
@@ -39,7 +41,7 @@ impl CryptoStream {
     pub(crate) fn take(&mut self, offset: u64, bytes: &[u8]) -> Option<Said> {
         let offset = usize::try_from(offset).ok().filter(|offset| *offset < MOST_BYTES)?;
         let is_known = self.waiting.get(&offset).is_some_and(|known| known.len() >= bytes.len());
-        if self.is_done || is_known || self.data.len() + self.waiting_len + bytes.len() > MOST_BYTES {
+        if self.is_done || is_known || self.held() + PIECE + bytes.len() > MOST_BYTES {
             return None;
         }
         self.waiting_len += bytes.len();
@@ -51,8 +53,18 @@ impl CryptoStream {
         }
         let (kind, body) = message(&self.data)?;
         let said = read(kind, body).unwrap_or(Said::Nothing);
-        *self = CryptoStream { is_done: true, ..CryptoStream::default() };
+        self.give_up();
         Some(said)
+    }
+
+    /// How many bytes it keeps, about.
+    pub(crate) fn held(&self) -> usize {
+        self.data.len() + self.waiting_len + PIECE * self.waiting.len()
+    }
+
+    /// Keeps nothing from now on.
+    pub(crate) fn give_up(&mut self) {
+        *self = CryptoStream { is_done: true, ..CryptoStream::default() };
     }
 }
 
@@ -70,6 +82,11 @@ impl HelloAgain {
         if let Some(Said::ClientHello { random, .. }) = self.crypto.take(offset, bytes) {
             self.random = Some(random);
         }
+    }
+
+    /// How many bytes it keeps, about.
+    pub(crate) fn held(&self) -> usize {
+        self.crypto.held()
     }
 
     /// Its random bytes, once it is whole.
@@ -219,5 +236,10 @@ mod tests {
         assert_eq!(stream.take(u64::MAX >> 2, &[0; 1200]), None);
         let kept: usize = stream.waiting.values().map(Vec::len).sum();
         assert!(kept == stream.waiting_len && kept <= MOST_BYTES, "{kept}");
+
+        // Small pieces count for what they take besides their bytes.
+        let mut stream = CryptoStream::default();
+        (1..MOST_BYTES as u64).for_each(|offset| assert_eq!(stream.take(offset, &[0]), None));
+        assert!(stream.waiting.len() <= MOST_BYTES / PIECE, "{} pieces", stream.waiting.len());
     }
 }

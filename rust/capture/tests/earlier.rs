@@ -8,7 +8,7 @@ use common::{Kept, Row, Rows, follow_with};
 use made::{Client, Handshake, Initial, Made, Server, Short, ZeroRtt, crypto};
 use quic_wire::packet::VERSION_2;
 use quic_wire_capture::ciphers::Suite;
-use quic_wire_capture::follow::Follower;
+use quic_wire_capture::follow::{Follower, MOST_TRIALS};
 use quic_wire_capture::sink::Unopened;
 
 const PING: &[u8] = &[1];
@@ -68,6 +68,20 @@ fn great_numbers() {
         assert!(found.len() >= 10 - missed, "{number}: {found:?}");
         assert_eq!(found, ((number + 10 - found.len() as u64)..number + 10).collect::<Vec<_>>());
         assert!(rows.unopened.iter().all(|why| *why == Unopened::NoConnection));
+    }
+}
+
+// 16 trials for each datagram are those that it takes to choose keys, so none are left to try them.
+#[test]
+fn limited_trials() {
+    let mut made = begun(Made::new(1), [40, 7]);
+    let all: Vec<_> = (0..20).map(|_| made.send(Client, Short, PING)).collect();
+    for (trials, connections) in [(0, 0), (MOST_TRIALS, 1)] {
+        let mut follower = Follower::default();
+        follower.limit_trials(trials);
+        follower.keylog.add(made.key_log().as_bytes());
+        all.iter().for_each(|kept| follower.take(&kept.datagram(), &mut ()));
+        assert_eq!(follower.counts().connections, connections, "{trials} trials");
     }
 }
 

@@ -214,6 +214,17 @@ fn fragments() {
     assert_eq!(found_with(&pcap(Order::Little, 0xa1b2_c3d4, RAW, &frames)).1.unwrap(), Found::default());
 }
 
+// The last fragment ends before one that came earlier, so that there are as many bytes as the packet has, but not those
+// in front.
+#[test]
+fn a_fragment_beyond_the_last_one() {
+    let (whole, at_24, last_at_8) = (udp(&[5; 24]), (1 << 13) | 3, 1);
+    let frames = [ipv4(at_24, &whole[..8]), ipv4(last_at_8, &whole[8..24])];
+    let frames: Vec<_> = frames.iter().map(Vec::as_slice).collect();
+    let (capture, found) = found_with(&pcap(Order::Little, 0xa1b2_c3d4, RAW, &frames));
+    assert_eq!((found, capture.fragments(), capture.others()), (Ok(Found::default()), 2, 0));
+}
+
 // What isn't UDP is counted, and so is what ends too early; padding of Ethernet is no part of a datagram.
 #[test]
 fn other_frames() {

@@ -6,8 +6,11 @@ mod common;
 mod made;
 
 use common::{KEYS, Kept, Plain, Random, Row, Rows, Sealer, datagrams, follow_with, opened};
-use made::{Client, Initial, Made, Server, Short, ZeroRtt, crypto};
+use made::{Client, Initial, Made, Server, Short, begun, crypto, eventful};
+use quic_wire::datagram::Header;
 use quic_wire::packet::VERSION_2;
+use quic_wire_capture::ciphers::Suite;
+use quic_wire_capture::keys::retry_tag;
 
 const FORGED: u64 = 1000;
 
@@ -21,6 +24,17 @@ fn with_forged(make: impl Fn(&Kept, u64) -> Option<Kept>) {
 }
 
 fn with_forged_in(keys: &[u8], all: &[Kept], packets: usize, make: impl Fn(&Kept, u64) -> Option<Kept>) {
+    compare_with_forged(keys, all, packets, own, make);
+}
+
+// The same with only some of what is found.
+fn compare_with_forged(
+    keys: &[u8],
+    all: &[Kept],
+    packets: usize,
+    own: impl Fn(Rows) -> Vec<Row>,
+    make: impl Fn(&Kept, u64) -> Option<Kept>,
+) {
     let follow = |all: &[Kept]| follow_with(keys, all).1;
     let expected = own(follow(all));
     assert_eq!(expected.len(), packets);
@@ -98,6 +112,60 @@ fn retries() {
     });
 }
 
+// Retries whose tag is right: anyone who saw the first packet can make them, and the client may have discarded them.
+#[test]
+fn retries_of_anyone() {
+    let (first, there) = (opened()[0].clone(), datagrams()[0].clone());
+    let mut bytes = Vec::new();
+    let header = Header::Retry { dst_cid: &first.scid, src_cid: b"nobody", version: 1 };
+    header.encode(&mut bytes).unwrap();
+    bytes.extend(b"token");
+    bytes.extend(retry_tag(1, &first.dcid, &bytes).unwrap());
+    with_forged(|kept, _| Some(Kept { bytes: bytes.clone(), from: there.to, to: there.from, ..kept.clone() }));
+}
+
+// Initial packets of the server that name another suite: anyone who saw the client's first packet has their keys.
+#[test]
+fn initial_packets_of_anyone() {
+    let is_model = |plain: &Plain| (plain.kind, plain.sender) == (Initial, Server);
+    let model = opened().into_iter().find(is_model).unwrap();
+    let (all, there) = (datagrams(), datagrams()[0].clone());
+    // The server's id is new with whichever packet names it first.
+    let kinds = |rows: Rows| {
+        let rows = own(rows).into_iter();
+        rows.map(|row| Row { text: row.text.split(',').take(1).collect(), ..row }).collect::<Vec<_>>()
+    };
+    for suite in [Suite::Aes256Gcm, Suite::ChaCha20Poly1305] {
+        let payload = crypto(0, &Made { suite, ..Made::new(1) }.server_hello());
+        let bytes = Sealer::of_capture(1).seal(&Plain { number: 7, payload, ..model.clone() });
+        compare_with_forged(KEYS, &all, 16, kinds, |kept, _| {
+            Some(Kept { bytes: bytes.clone(), from: there.to, to: there.from, ..kept.clone() })
+        });
+    }
+}
+
+// Connections that anyone began, whose ids are the client's with any further byte. So each packet to it may be one of
+// theirs, also if it has no id.
+#[test]
+fn ids_of_anyone() {
+    let one_sided = Made { ids: [vec![], b"server".to_vec()], ..Made::new(1) };
+    for made in [Made::new(1), one_sided] {
+        let id = made.ids[0].clone();
+        let (made, all) = eventful(made);
+        let follow = |all: &[Kept]| own(follow_with(made.key_log().as_bytes(), all).1);
+        let forged = (0..=255).map(|last| {
+            let (first, ids) = (vec![last, 9, 9, 9, 9, 9, 9, 9], [[&id[..], &[last]].concat(), vec![]]);
+            let other = Made { original_id: first.clone(), initial_id: first.clone(), ids, ..Made::new(9) };
+            let kept = Made { first_dcid: Some(first), ..other }.send(Client, Initial, &[1]);
+            Kept { record: FORGED, ..kept }
+        });
+        let mixed: Vec<_> = all[..1].iter().cloned().chain(forged).chain(all[1..].iter().cloned()).collect();
+        let without_connection = |row: Row| Row { connection: None, ..row };
+        let [expected, found] = [follow(&all), follow(&mixed)].map(|rows| rows.into_iter().map(without_connection));
+        assert_eq!(found.collect::<Vec<_>>(), expected.collect::<Vec<_>>(), "an id of {} bytes", id.len());
+    }
+}
+
 // Initial packets of other connections between the same addresses, with the same source id.
 #[test]
 fn other_connections() {
@@ -120,32 +188,11 @@ fn offloaded() {
     });
 }
 
-// A connection with a Retry, 0-RTT packets before the ClientHello, another address, a key update, an acknowledgment and
-// segments.
-fn made(mut made: Made) -> (Made, Vec<Kept>) {
-    let hello = crypto(0, &made.client_hello());
-    let mut all = vec![made.send(Client, ZeroRtt, &[1]), made.send(Client, Initial, &hello)];
-    all.extend([made.retry(b"retried"), made.send(Client, Initial, &hello)]);
-    all.extend(made.handshake_of_server());
-    all.push(made.send(Client, Short, &[1]));
-    // Without ids, addresses must stay.
-    if !made.ids[1].is_empty() {
-        made.addresses[0] = ([192, 0, 2, 1], 5).into();
-    }
-    made.updates[0] += 1;
-    all.push(made.send(Client, Short, &[1]));
-    let packets: Vec<_> = [1200, 1200, 300].iter().flat_map(|len| made.packet(Server, Short, &vec![0; *len])).collect();
-    all.push(made.datagram(Server, packets));
-    all.push(made.send(Client, Short, &[2, 2, 0, 0, 2]));
-    let all = all.into_iter().zip(1..).map(|(kept, record)| Kept { record, ..kept }).collect();
-    (made, all)
-}
-
 #[test]
 fn made_connections() {
     let empty = Made { ids: [vec![], vec![]], ..Made::new(1) };
     let one_sided = Made { ids: [vec![], b"server".to_vec()], version: VERSION_2, ..Made::new(1) };
-    for (made, all) in [Made::new(1), one_sided, empty].map(made) {
+    for (made, all) in [Made::new(1), one_sided, empty].map(eventful) {
         let keys = made.key_log();
         for place in [1, 7] {
             with_forged_in(keys.as_bytes(), &all, 13, |kept, seed| {
@@ -160,27 +207,6 @@ fn made_connections() {
             Some(Kept { from: ([10, 9, 9, 9], seed as u16).into(), ..kept.clone() })
         });
     }
-}
-
-// A connection that began before the capture, with an acknowledgment, a key update, and ids and addresses that nothing
-// in the capture gave.
-fn begun(mut made: Made) -> (Made, Vec<Kept>) {
-    made.first_dcid = None;
-    made.numbers = [[1, 1, 40], [1, 1, 7]];
-    let mut all = vec![made.send(Client, Short, &[2, 7, 0, 0, 0]), made.send(Server, Short, &[1])];
-    made.updates[0] += 1;
-    all.extend([made.send(Client, Short, &[1]), made.send(Client, Short, &[2, 8, 0, 0, 1])]);
-    all.extend([made.send(Server, Short, &[2, 42, 0, 0, 0]), made.send(Server, Short, &[2, 42, 0, 0, 2])]);
-    if !made.ids[1].is_empty() {
-        made.ids = [b"client's second".to_vec(), b"server's second".to_vec()];
-        all.extend([made.send(Client, Short, &[1]), made.send(Server, Short, &[1])]);
-        made.addresses[0] = ([192, 0, 2, 1], 5).into();
-        all.extend([made.send(Client, Short, &[1]), made.send(Server, Short, &[1])]);
-    }
-    let packets: Vec<_> = [1200, 1200, 300].iter().flat_map(|len| made.packet(Server, Short, &vec![0; *len])).collect();
-    all.push(made.datagram(Server, packets));
-    let all = all.into_iter().zip(1..).map(|(kept, record)| Kept { record, ..kept }).collect();
-    (made, all)
 }
 
 #[test]

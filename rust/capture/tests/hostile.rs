@@ -5,7 +5,9 @@ mod common;
 use common::{CAPTURE, KEYS, Kept, Plain, Random, Rows, Sealer, datagrams, follow_with, opened};
 use quic_wire::datagram::HeaderKind;
 use quic_wire_capture::capture::{Capture, Item};
-use quic_wire_capture::follow::{Follower, MOST_CONNECTIONS};
+use quic_wire_capture::connection::Connection;
+use quic_wire_capture::follow::{Follower, MOST_BEGUN, MOST_HELD};
+use quic_wire_capture::sink::{Ended, Sink};
 
 const TYPES: &[u8] = &[
     0, 1, 2, 3, 4, 5, 6, 7, 8, 9, 10, 12, 14, 15, 16, 17, 18, 19, 20, 21, 22, 23, 24, 25, 26, 27, 28, 29, 30, 31, 0x30,
@@ -126,6 +128,40 @@ fn changed_captures() {
     assert!(opened > 2 * rounds, "{opened} packets were opened");
 }
 
+/// How many connections were forgotten for others.
+struct Crowded(usize);
+
+impl Sink for Crowded {
+    fn ended(&mut self, _: &Connection, how: Ended) {
+        self.0 += usize::from(how == Ended::Crowded);
+    }
+}
+
+// Messages that never are whole, in pieces of a byte: anyone can begin connections with them. What waits is bounded,
+// and a connection whose handshake is under way goes on.
+#[test]
+fn messages_that_are_not_whole() {
+    let (all, first, mut sealer) = (datagrams(), opened()[0].clone(), Sealer::of_capture(1));
+    let (mut follower, mut rows, mut crowded) = (Follower::default(), Rows::default(), Crowded(0));
+    follower.keylog.add(KEYS);
+    let (early, late) = all.split_at(3);
+    early.iter().for_each(|kept| follower.take(&kept.datagram(), &mut rows));
+    // 3,000 pieces in each packet, of which each counts 64 bytes and more.
+    let piece = |offset: u16| [&[6][..], &(0x4000 | offset).to_be_bytes(), &[1, 0]].concat();
+    let payload: Vec<u8> = (1..=3000).flat_map(|offset| piece(2 * offset)).collect();
+    let count = 5 * MOST_HELD / 4 / (3000 * 64);
+    for n in 0..count as u64 {
+        let dcid = n.to_be_bytes().to_vec();
+        let plain = Plain { dcid: dcid.clone(), payload: payload.clone(), ..first.clone() };
+        sealer.first_id = dcid;
+        let bytes = sealer.seal(&plain);
+        follower.take(&Kept { bytes, record: 1000, ..all[0].clone() }.datagram(), &mut crowded);
+    }
+    late.iter().for_each(|kept| follower.take(&kept.datagram(), &mut rows));
+    assert!(crowded.0 >= count / 4, "{} of {count} connections made room", crowded.0);
+    assert_eq!(rows.opened(0), 16);
+}
+
 // Connections that anyone can begin don't push out one of the same addresses.
 #[test]
 fn many_connections() {
@@ -144,7 +180,7 @@ fn many_connections() {
     }
     late.iter().for_each(|kept| follower.take(&kept.datagram(), &mut rows));
     assert_eq!((rows.opened(0), follower.counts().connections as u64), (16, count + 1));
-    assert!(follower.connections().count() <= MOST_CONNECTIONS);
+    assert!(follower.connections().count() <= 1 + MOST_BEGUN);
     if let Ok(status) = std::fs::read_to_string("/proc/self/status") {
         println!("{count} connections, {}", status.lines().find(|line| line.starts_with("VmHWM")).unwrap_or(""));
     }

@@ -26,10 +26,12 @@ const TRIES_OF_KNOWN: usize = 64;
 const MOST_RANDOMS: usize = 1 << 10;
 const MOST_SCANNED: usize = 1 << 14;
 
-/// How much searching costs in all, in trials of opening a packet, until something is found; and how much more for each
-/// datagram of the capture.
-const MOST_COST: u64 = 1 << 23;
-const COST_OF_DATAGRAM: u64 = 1 << 4;
+/// How many trials of opening a packet the search for connections that began before the capture may cost until it finds
+/// one, unless [`Follower::limit_trials`] says otherwise.
+pub const MOST_TRIALS: u64 = 1 << 23;
+
+/// How many more for each datagram of the capture.
+const TRIALS_OF_DATAGRAM: u64 = 1 << 4;
 
 const ONE_RTT: [Label; 2] = [Label::ClientTraffic, Label::ServerTraffic];
 const HANDSHAKE: [Label; 2] = [Label::ClientHandshake, Label::ServerHandshake];
@@ -43,12 +45,31 @@ struct Tried {
     fronts: Vec<Front>,
 }
 
+/// How much searching costs in all until something is found, in trials of opening a packet.
+struct Budget {
+    most: u64,
+    cost: u64,
+}
+
+impl Default for Budget {
+    fn default() -> Budget {
+        Budget { most: MOST_TRIALS, cost: 0 }
+    }
+}
+
+impl Budget {
+    // How many trials are left after so many datagrams.
+    fn left(&self, datagrams: u64) -> u64 {
+        self.most.saturating_add(TRIALS_OF_DATAGRAM.saturating_mul(datagrams)).saturating_sub(self.cost)
+    }
+}
+
 /// What is known for the search.
 #[derive(Default)]
 pub(super) struct Strays {
     paths: HashMap<Path, Tried>,
     order: VecDeque<Path>,
-    cost: u64,
+    budget: Budget,
     // The connections with a packet whose keys came from the key log.
     named: HashMap<[u8; 32], usize>,
     // The last connections of the key log that ended.
@@ -57,14 +78,15 @@ pub(super) struct Strays {
 }
 
 impl Strays {
-    /// Notes whose secrets opened a packet.
-    pub(super) fn name(&mut self, connection: &mut Connection, kind: HeaderKind) {
+    /// Notes whose secrets opened a packet. Returns whether it is the connection's first.
+    pub(super) fn name(&mut self, connection: &mut Connection, kind: HeaderKind) -> bool {
         if kind == HeaderKind::Initial || std::mem::replace(&mut connection.is_named, true) {
-            return;
+            return false;
         }
         if let Some(random) = connection.random() {
             self.named.entry(*random).or_insert(connection.number());
         }
+        true
     }
 
     /// Notes that a connection is forgotten, whose secrets may be forgotten too.
@@ -107,7 +129,7 @@ impl Strays {
     }
 
     fn leave(&mut self, path: &Path, fronts: Vec<Front>, cost: u64) {
-        self.cost += cost;
+        self.budget.cost += cost;
         if let Some(stray) = self.paths.get_mut(path) {
             stray.fronts = fronts;
         }
@@ -243,8 +265,10 @@ impl Follower {
         })
     }
 
-    fn most_cost(&self) -> u64 {
-        MOST_COST + COST_OF_DATAGRAM * self.counts.datagrams
+    /// Limits how many trials of opening a packet the search for connections that began before the capture may cost
+    /// until it finds one: [`MOST_TRIALS`] otherwise. Each datagram adds 16.
+    pub fn limit_trials(&mut self, most: u64) {
+        self.strays.budget.most = most;
     }
 
     // Searches the secrets of the connections that are near, and then those of the key log. Returns the connection too
@@ -256,15 +280,14 @@ impl Follower {
         id_lens: RangeInclusive<usize>,
         in_log: bool,
     ) -> Option<(Option<usize>, Found)> {
-        let most_cost = self.most_cost();
-        let Follower { connections, keylog, buffer, strays, .. } = self;
+        let Follower { connections, keylog, buffer, strays, counts, .. } = self;
         let path = (datagram.from, datagram.to);
-        let tries = strays.enter(path, keylog.added());
-        if strays.cost > most_cost || tries > TRIES_OF_KNOWN || datagram.bytes.len() > MOST_USUAL {
+        let (tries, most) = (strays.enter(path, keylog.added()), strays.budget.left(counts.datagrams));
+        if most == 0 || tries > TRIES_OF_KNOWN || datagram.bytes.len() > MOST_USUAL {
             return None;
         }
         let mut before = strays.take_fronts(&path);
-        let mut search = Search { keylog, buffer, cost: 0 };
+        let mut search = Search { keylog, buffer, cost: 0, most };
         let mut stray = Stray { datagram: datagram.bytes, before: &[], acknowledged: None, id_lens };
         let of_near = near.iter().find_map(|(number, sender)| {
             let connection = connections.get(number).filter(|one| one.lacks_keys(*sender))?;
@@ -289,16 +312,16 @@ impl Follower {
 
     // Searches the secrets of the key log for a packet with a long header.
     fn search_long(&mut self, datagram: &Datagram<'_>, packet: &PacketRef<'_>, labels: &[Label]) -> Option<Found> {
-        let most_cost = self.most_cost();
-        let Follower { connections, keylog, buffer, strays, .. } = self;
+        let Follower { connections, keylog, buffer, strays, counts, .. } = self;
         let path = (datagram.from, datagram.to);
-        if strays.enter(path, keylog.added()) > TRIES || strays.cost > most_cost {
+        let most = strays.budget.left(counts.datagrams);
+        if strays.enter(path, keylog.added()) > TRIES || most == 0 {
             return None;
         }
         let versions = [packet.header().version()];
-        let mut search = Search { keylog, buffer, cost: 0 };
+        let mut search = Search { keylog, buffer, cost: 0, most };
         let found = search.long(*packet, strays.sources(keylog, connections, labels, &versions));
-        strays.cost += search.cost;
+        strays.budget.cost += search.cost;
         found
     }
 
@@ -310,7 +333,7 @@ impl Follower {
         (known, found): (Option<usize>, Found),
         sink: &mut dyn Sink,
     ) -> Option<Owner> {
-        self.strays.cost = 0;
+        self.strays.budget.cost = 0;
         let Source { random, label, .. } = *found.source();
         let known = known.or_else(|| self.strays.named.get(&random).copied());
         let Some(connection) = known.and_then(|number| self.connections.get_mut(&number)) else {

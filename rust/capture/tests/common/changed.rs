@@ -33,6 +33,24 @@ impl Seed {
         Ok(Seed { name: path.display().to_string(), file, keys, datagrams })
     }
 
+    /// Captures that end after its first datagram, its second and so on, up to so many: short ones are soon read.
+    pub fn fronts(&self, most: usize) -> Vec<Seed> {
+        let (mut capture, mut ends) = (Capture::default(), Vec::new());
+        for (end, byte) in (1..).zip(&self.file) {
+            capture.feed(&[*byte]);
+            while let Ok(Some(item)) = capture.next() {
+                ends.extend(matches!(item, Item::Datagram(_)).then_some(end));
+            }
+        }
+        let front = |(count, end): (usize, &usize)| Seed {
+            name: format!("{}, {count} datagrams", self.name),
+            file: self.file[..*end].to_vec(),
+            keys: self.keys.clone(),
+            datagrams: self.datagrams[..count].to_vec(),
+        };
+        (1..).zip(&ends).take(most).map(front).collect()
+    }
+
     /// A key log that was changed, or has another one's secrets too; mostly it is as it was.
     pub fn changed_keys(&self, random: &mut Random, other: &Seed) -> Vec<u8> {
         let mut keys = self.keys.clone();

@@ -203,6 +203,48 @@ impl Made {
     }
 }
 
+/// A connection with a Retry, 0-RTT packets before the ClientHello, another address, a key update, an acknowledgment
+/// and segments.
+pub fn eventful(mut made: Made) -> (Made, Vec<Kept>) {
+    let hello = crypto(0, &made.client_hello());
+    let mut all = vec![made.send(Client, ZeroRtt, &[1]), made.send(Client, Initial, &hello)];
+    all.extend([made.retry(b"retried"), made.send(Client, Initial, &hello)]);
+    all.extend(made.handshake_of_server());
+    all.push(made.send(Client, Short, &[1]));
+    // Without ids, addresses must stay.
+    if !made.ids[1].is_empty() {
+        made.addresses[0] = ([192, 0, 2, 1], 5).into();
+    }
+    made.updates[0] += 1;
+    all.push(made.send(Client, Short, &[1]));
+    let packets: Vec<_> = [1200, 1200, 300].iter().flat_map(|len| made.packet(Server, Short, &vec![0; *len])).collect();
+    all.push(made.datagram(Server, packets));
+    all.push(made.send(Client, Short, &[2, 2, 0, 0, 2]));
+    let all = all.into_iter().zip(1..).map(|(kept, record)| Kept { record, ..kept }).collect();
+    (made, all)
+}
+
+/// A connection that began before the capture, with an acknowledgment, a key update, and ids and addresses that nothing
+/// in the capture gave.
+pub fn begun(mut made: Made) -> (Made, Vec<Kept>) {
+    made.first_dcid = None;
+    made.numbers = [[1, 1, 40], [1, 1, 7]];
+    let mut all = vec![made.send(Client, Short, &[2, 7, 0, 0, 0]), made.send(Server, Short, &[1])];
+    made.updates[0] += 1;
+    all.extend([made.send(Client, Short, &[1]), made.send(Client, Short, &[2, 8, 0, 0, 1])]);
+    all.extend([made.send(Server, Short, &[2, 42, 0, 0, 0]), made.send(Server, Short, &[2, 42, 0, 0, 2])]);
+    if !made.ids[1].is_empty() {
+        made.ids = [b"client's second".to_vec(), b"server's second".to_vec()];
+        all.extend([made.send(Client, Short, &[1]), made.send(Server, Short, &[1])]);
+        made.addresses[0] = ([192, 0, 2, 1], 5).into();
+        all.extend([made.send(Client, Short, &[1]), made.send(Server, Short, &[1])]);
+    }
+    let packets: Vec<_> = [1200, 1200, 300].iter().flat_map(|len| made.packet(Server, Short, &vec![0; *len])).collect();
+    all.push(made.datagram(Server, packets));
+    let all = all.into_iter().zip(1..).map(|(kept, record)| Kept { record, ..kept }).collect();
+    (made, all)
+}
+
 fn message(kind: u8, body: &[u8]) -> Vec<u8> {
     [&[kind, 0][..], &(body.len() as u16).to_be_bytes(), body].concat()
 }

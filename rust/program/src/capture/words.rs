@@ -9,7 +9,6 @@ use quic_wire::ids::SpaceId;
 use quic_wire::packet::VERSION_2;
 use quic_wire::transport_error::Code;
 use quic_wire_capture::ciphers::Suite;
-use quic_wire_capture::follow::MOST_CONNECTIONS;
 use quic_wire_capture::recovery::{Sent, Threshold};
 use quic_wire_capture::sink::Ended;
 use std::fmt::{self, Display, Formatter};
@@ -128,7 +127,7 @@ pub fn ended(sum: &Sum<'_>) -> String {
     match how {
         _ if !said.is_empty() => said.join("; "),
         Some(Ended::Silent) => "nothing more came, until it had timed out".into(),
-        Some(Ended::Crowded) => format!("it was forgotten, since there were {MOST_CONNECTIONS} at once"),
+        Some(Ended::Crowded) => "it was forgotten, since there were too many at once".into(),
         Some(Ended::Closed) => "it was closed".into(),
         Some(Ended::Reset) => "it was reset".into(),
         None => "it was open at the end of the capture".into(),

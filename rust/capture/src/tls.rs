@@ -231,9 +231,7 @@ mod tests {
     fn parameters_in_payloads() {
         let extensions = [0, 16, 0, 5, 0, 3, 2, b'h', b'3', 0, 0x39, 0, 3, 4, 1, 9];
         let message = [&[ENCRYPTED_EXTENSIONS, 0, 0, 18, 0, 16], &extensions[..]].concat();
-        let crypto = |from: usize, to: usize| {
-            [&[0x06, from as u8, (to - from) as u8], &message[from..to]].concat()
-        };
+        let crypto = |from: usize, to: usize| [&[0x06, from as u8, (to - from) as u8], &message[from..to]].concat();
         let (one, two) = (crypto(0, 9), crypto(9, message.len()));
         let wanted = Hello::Parameters(Side::Server, vec![4, 1, 9]);
         for payloads in [[&one[..], &two].concat(), [&[2, 0, 0, 0, 0], &two[..], &[0, 0], &one].concat()] {

@@ -48,8 +48,11 @@ fn bytes_of_both_sides() {
     // Its own stream, whose end is known by its FIN alone.
     all.push(made.send(Server, Short, &stream(3, 5, &[], true)));
     let streams = follow(&[&made], &all);
-    let wanted =
-        [(0, Client, [3, 110, 40, 0], Some(110)), (0, Server, [2, 40, 0, 20], None), (3, Server, [1, 0, 0, 5], Some(5))];
+    let wanted = [
+        (0, Client, [3, 110, 40, 0], Some(110)),
+        (0, Server, [2, 40, 0, 20], None),
+        (3, Server, [1, 0, 0, 5], Some(5)),
+    ];
     assert_eq!(rows(&streams, 0), wanted);
     let gaps: Vec<_> = streams.of(0).nth(1).unwrap().2.gaps().collect();
     assert_eq!((gaps, rows(&streams, 1)), (vec![30..50], vec![]));

@@ -17,8 +17,8 @@ use quic_wire_check::finding::Finding;
 use quic_wire_check::rule::{Level, Rule};
 use quic_wire_check::rules;
 use quic_wire_cli::objects::{
-    CaptureJson, CheckForm, CheckJson, Checked, Filter as Shown, Form, Lines, Object, Qlog, Report, Taker, Traces, Value,
-    error_text, words,
+    CaptureJson, CheckForm, CheckJson, Checked, Filter as Shown, Form, Lines, Object, Qlog, Report, Taker, Traces,
+    Value, error_text, words,
 };
 use std::borrow::Cow;
 use std::cell::{Cell, RefCell};
@@ -69,8 +69,8 @@ impl Lines for Written {
     }
 }
 
-/// Pieces of traces: of each the connection and how many bytes it has, as numbers of 4 bytes, the lowest byte first, and
-/// then its bytes.
+/// Pieces of traces: of each the connection and how many bytes it has, as numbers of 4 bytes, the lowest byte first,
+/// and then its bytes.
 struct Pieces(Rc<RefCell<Vec<u8>>>);
 
 impl Traces for Pieces {
@@ -174,17 +174,16 @@ impl Engine {
         let lines = Rc::new(Text { most: if has_packets { 0 } else { MOST_LINES }, ..Text::default() });
         let traces = Rc::default();
         let mut shown = Shown::default();
-        let forms: Vec<Box<dyn Form>> = match purpose {
-            Purpose::Objects => vec![Box::new(CaptureJson::new(Written(Rc::clone(&lines)), true, false))],
-            Purpose::Table | Purpose::Record(_) => vec![
-                Box::new(CaptureJson::new(Written(Rc::clone(&lines)), false, false)),
-                Box::new(Filled(Rc::clone(&table))),
-            ],
+        let json = CaptureJson::new(Written(Rc::clone(&lines)), has_packets, false);
+        let mut forms: Vec<Box<dyn Form>> = vec![Box::new(json)];
+        match purpose {
+            Purpose::Objects => {}
+            Purpose::Table | Purpose::Record(_) => forms.push(Box::new(Filled(Rc::clone(&table)))),
             Purpose::Traces(name, connection) => {
                 shown.connections.extend(connection);
-                vec![Box::new(Qlog::new(Pieces(Rc::clone(&traces)), &name))]
+                forms.push(Box::new(Qlog::new(Pieces(Rc::clone(&traces)), &name)));
             }
-        };
+        }
         let musts: Vec<&'static Rule> = rules::all().filter(|rule| rule.level == Level::Must).collect();
         Engine {
             capture: Capture::default(),

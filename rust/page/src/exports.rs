@@ -319,8 +319,8 @@ pub extern "C" fn bytes_shortest(flags: u32) -> u32 {
     })
 }
 
-/// The transport parameters of which the payloads, one after the other, tell in CRYPTO frames. Returns whose they are, 0
-/// the client's, 1 the server's; 2 if the first message has none, 3 if it isn't whole.
+/// The transport parameters in the CRYPTO frames of the payloads, one after the other. Returns whose they are: 0 the
+/// client's, 1 the server's; 2 if the first message has none, 3 if it isn't whole.
 #[unsafe(no_mangle)]
 pub extern "C" fn bytes_hello() -> u32 {
     with_held(0, u32::MAX, |held, _, output, _| match Hello::read(held) {

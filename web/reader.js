@@ -4,8 +4,9 @@ import { Module } from "./module.js";
 
 const PIECE = 1 << 20;
 const GZIP = [0x1f, 0x8b];
-// What a capture is read for: its table, the packets of one record, the objects that quic-wire prints.
-const [TABLE, RECORD, OBJECTS] = [0, 1, 2];
+// What a capture is read for: its table, the packets of one record, the objects that quic-wire prints, the traces that
+// it writes of all connections, and that of one.
+const [TABLE, RECORD, OBJECTS, TRACES, TRACE] = [0, 1, 2, 3, 4];
 const SIDES = ["client", "server"];
 
 // Why reading has ended without a fault: something else is read now.
@@ -53,6 +54,18 @@ async function* inflatedPieces(file) {
   }
 }
 
+// Adds pieces of traces to the parts of each connection's.
+function addPieces(traces, buffer) {
+  const view = new DataView(buffer);
+  for (let at = 0; at < buffer.byteLength;) {
+    const [connection, length] = [view.getUint32(at, true), view.getUint32(at + 4, true)];
+    const parts = traces.get(connection) ?? [];
+    parts.push(new Uint8Array(buffer, at + 8, length));
+    traces.set(connection, parts);
+    at += 8 + length;
+  }
+}
+
 async function piecesOf(file) {
   const front = new Uint8Array(await file.slice(0, GZIP.length).arrayBuffer());
   const isCompressed = GZIP.every((byte, at) => front[at] === byte);
@@ -68,10 +81,12 @@ export class Reader {
     this.fault = "";
   }
 
-  // Starts a module of its own, so that what the last one took is free.
-  async begin(purpose, record = 0) {
+  // Starts a module of its own, so that what the last one took is free. |number| is a record or a connection; |name| is
+  // what traces call the capture.
+  async begin(purpose, number = 0, name = "") {
     const module = await Module.start(this.compiled);
-    module.calls.capture_begin(purpose, record);
+    module.putText(name);
+    module.calls.capture_begin(purpose, number);
     for (const text of this.keyLogs) {
       module.put(text);
       module.calls.capture_add_keylog();
@@ -128,7 +143,13 @@ export class Reader {
       this.module.calls.capture_parameters(number, side) ? JSON.parse(this.module.text()) : null);
     return this.connections.slice(from, to).map((connection) => ({
       ...connection, parameters: SIDES.map((_, side) => parameters(connection.connection, side)),
+      streams: this.module.calls.capture_stream_count(connection.connection),
     }));
+  }
+
+  // The streams of a connection between two positions, each with what a side sent on it.
+  streams(connection, from, to) {
+    return this.module.objects("capture_streams", connection, from, to);
   }
 
   // Lists only what a filter lets through: what that is, or why the filter can't be read.
@@ -185,6 +206,23 @@ export class Reader {
     module.calls.capture_finish();
     take();
     return parts;
+  }
+
+  // The traces that quic-wire capture --qlog writes, of all connections or of one: for each its parts, in bytes.
+  async traces(name, connection = null, after = () => false) {
+    const module = await (connection === null ? this.begin(TRACES, 0, name) : this.begin(TRACE, connection, name));
+    const traces = new Map();
+    const take = () => {
+      module.calls.capture_traces();
+      addPieces(traces, module.bytes());
+    };
+    await this.feed(module, (read) => {
+      take();
+      return after(read);
+    });
+    module.calls.capture_finish();
+    take();
+    return traces;
   }
 
   // What quic-wire check --json prints.

@@ -216,6 +216,10 @@ class WebKit(Driven):
         return []
 
 
+# The types of what the page saves.
+SAVED = ["image/svg+xml", "application/x-ndjson", "application/qlog+json-seq", "application/x-tar"]
+
+
 class Firefox(Browser):
     """Firefox, by the commands of its own port (Marionette)."""
 
@@ -223,7 +227,7 @@ class Firefox(Browser):
     PREFERENCES = [
         ("marionette.port", "0"), ("datareporting.policy.dataSubmissionEnabled", "false"),
         ("browser.download.folderList", "2"), ("browser.download.alwaysOpenPanel", "false"),
-        ("browser.helperApps.neverAsk.saveToDisk", '"image/svg+xml,application/x-ndjson"'),
+        ("browser.helperApps.neverAsk.saveToDisk", f'"{",".join(SAVED)}"'),
         ("browser.download.always_ask_before_handling_new_types", "false"),
         ("network.dns.localDomains", f'"{ELSEWHERE}"'),
     ]

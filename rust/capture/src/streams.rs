@@ -7,6 +7,7 @@ use crate::sink::{Event, Sink};
 use quic_wire::frame::Frame;
 use quic_wire::{Side, StreamId};
 use std::collections::BTreeMap;
+use std::iter;
 use std::ops::Range;
 
 /// How many streams are remembered at most, of all connections; of each, each side counts as one.
@@ -120,7 +121,7 @@ impl Stream {
         if to == from + 1 {
             self.seen[from] = start..end;
         } else {
-            self.seen.splice(from..to, [start..end]);
+            self.seen.splice(from..to, iter::once(start..end));
         }
     }
 

@@ -199,7 +199,7 @@ fn traces_of_one_and_of_all() {
         for (connection, trace) in &all {
             let (one, connection) = (*connection as usize, u64::from(*connection));
             let alone = traces(&recorded.read(Purpose::Traces(name(), Some(one)), 1 << 16));
-            assert_eq!(alone.into_values().collect::<Vec<_>>(), [trace.clone()], "{}, {connection}", recorded.name);
+            assert_eq!(alone.values().collect::<Vec<_>>(), [trace], "{}, {connection}", recorded.name);
             let records: Vec<_> = trace.split_terminator('\n').map(|one| object(&one[1..])).collect();
             assert_eq!(records[0]["trace"]["vantage_point"]["name"], recorded.name);
             let numbers: Vec<_> = records.iter().filter_map(|one| one["data"]["header"].get("packet_number")).collect();

@@ -250,7 +250,7 @@ export class Captures {
     this.cardsShown = 0;
     this.askCards();
     const go = (index) => this.list.goTo(index);
-    showFindings(this.byId("findings"), this.byId("found-title"), summary.findings, go);
+    showFindings(this.byId("findings"), this.byId("found-title"), summary.findings, summary.finding_count, go);
     this.list.apply(this.list.filter.value);
     this.state = "ready";
   }
@@ -307,7 +307,7 @@ export class Captures {
   }
 
   detail({ detail }) {
-    this.datagram.show(detail, this.columns(), this.summary?.findings ?? []);
+    this.datagram.show(detail, this.columns());
     if (this.summary) {
       this.say(this.said);
     }

@@ -45,14 +45,13 @@ export class DatagramView {
   }
 
   // Shows what the worker said of a packet, in rows of this many bytes.
-  show({ index, record, from, to, datagram, packets }, columns, findings) {
+  show({ index, record, from, to, datagram, packets, findings }, columns) {
     const { boxes } = this;
     boxes.section.hidden = false;
     boxes.title.textContent = `Record ${record}: ${from} to ${to}`;
     const chosen = packets.find((packet) => packet.index === index);
     boxes.note.textContent = packetText(chosen);
-    const broken = findings.filter(({ row }) => packets.some((packet) => packet.index === row));
-    boxes.broken.replaceChildren(...broken.map((one) => element("li", "fault",
+    boxes.broken.replaceChildren(...findings.map((one) => element("li", "fault",
       `Byte ${one.offset_in_datagram}: ${one.seen}. Expected: ${one.expected}. RFC ${one.rfc}, section ${one.section}`,
     )));
     boxes.views.hidden = datagram === undefined;

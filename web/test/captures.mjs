@@ -64,6 +64,7 @@ async function compare(file) {
   const read = packets.map((line) => JSON.parse(line));
   rowsAgree(reader, read, name);
   streamsAgree(reader, read, name);
+  await findingsAgree(reader, name);
   await tracesAgree(reader, file, keys);
   return packets.length;
 }
@@ -92,6 +93,17 @@ async function tracesAgree(reader, file, keys) {
     same(one, all, `the trace of connection ${number} of ${name} alone`);
   }
   fs.rmSync(folder, { recursive: true });
+}
+
+// Each finding of the summary comes again with its packet.
+async function findingsAgree(reader, name) {
+  const { findings, finding_count: count } = reader.summary();
+  same(`${findings.length}`, `${Math.min(count, 500)}`, `findings of ${name}`);
+  for (const finding of findings.filter(({ row }) => row !== null)) {
+    const { findings: there } = await reader.detail(finding.row);
+    const isThere = there.some((one) => JSON.stringify(one) === JSON.stringify(finding));
+    same(`${isThere}`, "true", `whether ${finding.rule} is found at row ${finding.row} of ${name}`);
+  }
 }
 
 // Each stream has the bytes of its STREAM frames.

@@ -46,7 +46,7 @@ export class StreamTable {
     row.append(...STREAM_COLUMNS.map((text) => element("th", "", text, { scope: "col" })));
     head.append(row);
     table.append(head, this.body);
-    const title = `${count(total, "stream")}, those of both directions counted for each side that sends`;
+    const title = `Bytes of ${count(total, "stream")}, each side that sends counted`;
     this.box.append(element("summary", "", title), table, this.more);
     this.box.addEventListener("toggle", () => this.begin());
     this.more.addEventListener("click", () => this.next());

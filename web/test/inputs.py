@@ -205,11 +205,11 @@ def hints(browser, address):
 # Texts of each kind, what the page guesses, and the mode whose reader is chosen then: a payload, the first bytes of the
 # client's Initial in RFC 9001, appendix A.2, a client's and a server's transport parameters.
 GUESSES = [
-    ("02406419020301" "0a05020e", "a payload", None),
+    ("02406419020301" "0a05026869", "a payload", None),
     ("c000000001088394c8f03e5157080000449e7b9aec34", "a datagram", None),
-    ("01048000753004048010000005048010000a0103", "transport parameters", "client"),
+    ("010480007530" "040480100000" "050480100000" "0a0103", "transport parameters", "client"),
     ("000811223344556677880f0401020304021000112233445566778899aabbccddeeff", "transport parameters", "client"),
-    ("00000000: 0240 6419 0203 010a  .@d.....\n00000008: 0502 0e              ...", "a payload", None),
+    ("00000000: 0240 6419 0203 010a  .@d.....\n00000008: 0502 6869              ..hi", "a payload", None),
 ]
 GUESSED = """const { elements } = document.getElementById("form");
     const status = document.getElementById("status").textContent;

@@ -21,7 +21,7 @@ const CAPTURE_FRONTS = [
   [/^0a0d0d0a.{8}(1a2b3c4d|4d3c2b1a)/, "pcapng"],
 ];
 const MOST_OF_CAPTURE = 12;
-// A datagram has fewer bytes. Of how many inputs, and of how many items of each, are looked at.
+// A datagram has fewer bytes. How many inputs are read, and how many items of each.
 const MOST_BYTES_GUESSED = 65536;
 const MOST_INPUTS = 64;
 const MOST_ITEMS = 64;

@@ -31,6 +31,8 @@ class DiskFile {
   slice(begin, end) {
     return {
       arrayBuffer: async () => {
+        // A worker's other messages have their turn between two pieces.
+        await new Promise((done) => setImmediate(done));
         const bytes = new Uint8Array(Math.max(0, Math.min(end, this.size) - begin));
         fs.readSync(this.handle, bytes, 0, bytes.length, begin);
         return bytes.buffer;
@@ -43,13 +45,15 @@ class DiskFile {
 async function timed(what, act) {
   const delays = monitorEventLoopDelay({ resolution: 1 });
   delays.enable();
-  const began = performance.now();
+  const [began, spent] = [performance.now(), process.cpuUsage()];
   const result = await act();
   const took = performance.now() - began;
+  const { user, system } = process.cpuUsage(spent);
   // The last step counts once the loop has gone on.
   await new Promise((done) => setTimeout(done, 5));
   delays.disable();
-  say(what, `${took.toFixed(0)} ms, of which the longest step has ${(delays.max / 1e6).toFixed(0)} ms`);
+  const processor = `${((user + system) / 1000).toFixed(0)} ms of the processor`;
+  say(what, `${took.toFixed(0)} ms, ${processor}; the longest step has ${(delays.max / 1e6).toFixed(0)} ms`);
   return result;
 }
 
@@ -64,7 +68,6 @@ await timed("all of it", () => reader.read(() => {
     reader.rows(0, 50);
     first = performance.now() - began;
   }
-  // The worker's other messages have their turn.
   return false;
 }));
 say("the first rows after", `${first.toFixed(0)} ms`);

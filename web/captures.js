@@ -4,7 +4,8 @@ import { CaptureList } from "./capture-list.js";
 import { addCards, CARDS, moreText, unopenedTexts } from "./connections.js";
 import { DatagramView } from "./datagram.js";
 import { showFindings } from "./findings.js";
-import { saveBlob } from "./picture.js";
+import { helloBoxes } from "./hello.js";
+import { saveBlob, saveText } from "./picture.js";
 import { count } from "./shown.js";
 import { Timeline } from "./timeline.js";
 
@@ -56,6 +57,7 @@ export class Captures {
       views: byId("packet-views"), grid: byId("packet-grid"), outline: byId("packet-outline"),
       payload: byId("payload"), payloadTitle: byId("payload-title"), payloadGrid: byId("payload-grid"),
       payloadOutline: byId("payload-outline"), inspector: byId("packet-inspector"),
+      hello: helloBoxes(byId, "packet-hello"),
     }, libraries);
   }
 
@@ -63,7 +65,9 @@ export class Captures {
     const { byId } = this;
     byId("files").addEventListener("change", (event) => this.take([...event.target.files]));
     byId("stop").addEventListener("click", () => this.ask("stop"));
-    byId("save-objects").addEventListener("click", () => this.save());
+    byId("save-objects").addEventListener("click", () => this.save("save"));
+    byId("save-traces").addEventListener("click", () => this.save("saveTraces", { connection: null }));
+    byId("save-timeline").addEventListener("click", () => this.saveTimeline());
     byId("more-connections").addEventListener("click", () => this.askCards());
     byId("whole-timeline").addEventListener("click", () => this.timeline.all());
     const page = document.documentElement;
@@ -99,7 +103,8 @@ export class Captures {
       failed: () => this.failed(message), filtered: () => this.list.filtered(message),
       rows: () => this.list.take(message), position: () => this.list.found(message),
       cards: () => this.cards(message), points: () => this.points(message), detail: () => this.detail(message),
-      saved: () => this.saved(message), cancelled: () => this.cancelled(),
+      saved: () => this.saved(message), unsaved: () => this.unsaved(message.why), cancelled: () => this.cancelled(),
+      streams: () => this.streams.get(message.connection)?.take(message),
     };
     takers[type]();
   }
@@ -221,9 +226,13 @@ export class Captures {
 
   cancelled() {
     if (document.documentElement.dataset.capture === "saving") {
-      this.state = "ready";
-      this.say("Not saved.");
+      this.unsaved("that was stopped");
     }
+  }
+
+  unsaved(why) {
+    this.state = "ready";
+    this.say(`Not saved: ${why}.`);
   }
 
   // ---- what was found
@@ -237,10 +246,11 @@ export class Captures {
       this.byId(id).hidden = summary.packets === 0;
     }
     this.byId("connections").replaceChildren();
+    this.streams = new Map();
     this.cardsShown = 0;
     this.askCards();
     const go = (index) => this.list.goTo(index);
-    showFindings(this.byId("findings"), this.byId("found-title"), summary.findings, go);
+    showFindings(this.byId("findings"), this.byId("found-title"), summary.findings, summary.finding_count, go);
     this.list.apply(this.list.filter.value);
     this.state = "ready";
   }
@@ -267,6 +277,9 @@ export class Captures {
     addCards(this.byId("connections"), list, {
       filter: (number) => this.list.apply(`c:${number}`),
       picture: (number) => this.ask("points", { connection: number }),
+      trace: (number) => this.save("saveTraces", { connection: number }),
+      streams: (number, table) => this.streams.set(number, table),
+      askStreams: (connection, from, to) => this.ask("streams", { connection, from, to }),
     });
     const more = moreText(this.cardsShown, this.summary.connections, this.summary.further_connections);
     this.byId("more-text").textContent = more;
@@ -279,7 +292,14 @@ export class Captures {
   points({ connection, points }) {
     this.byId("times").hidden = points.length === 0;
     this.byId("times-title").textContent = `Packet numbers over time, connection ${connection}`;
+    this.pictured = connection;
     this.timeline.show(points);
+  }
+
+  // Saves the part of the picture that is shown.
+  saveTimeline() {
+    const title = `${this.file.name}, connection ${this.pictured}: packet numbers over time`;
+    saveText(this.timeline.file(title), "image/svg+xml", `${this.file.name}.${this.pictured}.svg`);
   }
 
   open(index) {
@@ -287,19 +307,22 @@ export class Captures {
   }
 
   detail({ detail }) {
-    this.datagram.show(detail, this.columns(), this.summary?.findings ?? []);
+    this.datagram.show(detail, this.columns());
     if (this.summary) {
       this.say(this.said);
     }
   }
 
-  save() {
-    this.state = "saving";
-    this.ask("save");
+  // Has the worker make a file of what is asked for, unless it is busy.
+  save(type, message = {}) {
+    if (document.documentElement.dataset.capture === "ready") {
+      this.state = "saving";
+      this.ask(type, { name: this.file.name, ...message });
+    }
   }
 
-  saved({ blob }) {
-    saveBlob(blob, `${this.file.name}.jsonl`);
+  saved({ blob, name }) {
+    saveBlob(blob, name);
     this.state = "ready";
     this.say(this.said);
   }

@@ -2,6 +2,7 @@
 
 import { element } from "./rows.js";
 import { count } from "./shown.js";
+import { StreamTable } from "./streams.js";
 
 // How many connections are shown at first, and how many more at a time.
 export const CARDS = 100;
@@ -76,7 +77,10 @@ function card(connection, on) {
   const retried = retry === undefined ? "" : `, after a Retry ${retry}`;
   box.append(element("p", "", `first destination id ${id || "empty"}${retried}`));
   box.append(element("p", "ended", `${end[0].toUpperCase()}${end.slice(1)}.`));
-  const buttons = [["Its packets", () => on.filter(number)], ["Packets over time", () => on.picture(number)]];
+  const buttons = [
+    ["Its packets", () => on.filter(number)], ["Packets over time", () => on.picture(number)],
+    ["Save as qlog", () => on.trace(number)],
+  ];
   const row = element("p", "card-buttons");
   row.append(...buttons.map(([text, click]) => {
     const button = element("button", "plain", text, { type: "button" });
@@ -84,11 +88,23 @@ function card(connection, on) {
     button.addEventListener("click", click);
     return button;
   }));
-  box.append(row, parametersOf(connection.parameters));
+  box.append(row, parametersOf(connection.parameters), ...streamsOf(connection, on));
   return box;
 }
 
-// Adds cards of connections to a box. |on| has filter(connection) and picture(connection).
+// The table of streams, if there are any.
+function streamsOf({ connection, streams }, on) {
+  if (streams === 0) {
+    return [];
+  }
+  const table = new StreamTable(streams, (from, to) => on.askStreams(connection, from, to));
+  on.streams(connection, table);
+  return [table.box];
+}
+
+// Adds cards of connections to a box. |on| has filter(connection); picture(connection); trace(connection), which saves
+// its trace; streams(connection, table), which keeps a table; and askStreams(connection, from, to), which asks for
+// rows.
 export function addCards(box, list, on) {
   box.append(...list.map((connection) => card(connection, on)));
 }

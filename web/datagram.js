@@ -2,7 +2,9 @@
 
 import { fromHex } from "./bytes.js";
 import { VERSIONS } from "./formats.js";
+import { HelloView } from "./hello.js";
 import { inspect } from "./inspector.js";
+import { HANDSHAKE, INITIAL } from "./layout.js";
 import { readBytes } from "./reading.js";
 import { element } from "./rows.js";
 import { count } from "./shown.js";
@@ -14,6 +16,9 @@ const MOST_INNER = 60;
 // the text of the packet.
 const PAYLOAD = { mode: "frames", quinn: true, strict: true };
 
+// The packets that may have transport parameters, by the names of their types.
+const KINDS_OF_HELLO = { Initial: INITIAL, Handshake: HANDSHAKE };
+
 // What is said of a packet besides its bytes.
 function packetText(packet) {
   const { type, number, packet_in_datagram: [begin, end], text } = packet;
@@ -22,8 +27,8 @@ function packetText(packet) {
 }
 
 export class DatagramView {
-  // |boxes| are the elements; each of the two libraries holds what one of the views shows.
-  constructor(boxes, [library, payloadLibrary]) {
+  // |boxes| are the elements; each of the three libraries holds what one of the views shows.
+  constructor(boxes, [library, payloadLibrary, helloLibrary]) {
     Object.assign(this, { boxes, library, payloadLibrary, reading: null, payload: null });
     const inspected = (reading, spot) => inspect(boxes.inspector, reading, reading && spot);
     this.views = new Views(boxes.grid, boxes.outline, (spot) => {
@@ -31,6 +36,7 @@ export class DatagramView {
       this.follow(spot);
     });
     this.payloadViews = new Views(boxes.payloadGrid, boxes.payloadOutline, (spot) => inspected(this.payload, spot));
+    this.hello = new HelloView(helloLibrary, boxes.hello, inspected);
   }
 
   hide() {
@@ -39,14 +45,13 @@ export class DatagramView {
   }
 
   // Shows what the worker said of a packet, in rows of this many bytes.
-  show({ index, record, from, to, datagram, packets }, columns, findings) {
+  show({ index, record, from, to, datagram, packets, findings }, columns) {
     const { boxes } = this;
     boxes.section.hidden = false;
     boxes.title.textContent = `Record ${record}: ${from} to ${to}`;
     const chosen = packets.find((packet) => packet.index === index);
     boxes.note.textContent = packetText(chosen);
-    const broken = findings.filter(({ row }) => packets.some((packet) => packet.index === row));
-    boxes.broken.replaceChildren(...broken.map((one) => element("li", "fault",
+    boxes.broken.replaceChildren(...findings.map((one) => element("li", "fault",
       `Byte ${one.offset_in_datagram}: ${one.seen}. Expected: ${one.expected}. RFC ${one.rfc}, section ${one.section}`,
     )));
     boxes.views.hidden = datagram === undefined;
@@ -104,6 +109,9 @@ export class DatagramView {
       + "without protection";
     this.payloadViews.show(this.payload, this.columns);
     this.shown = packet;
+    const same = this.packets.filter(({ type, payload }) => type === packet.type && payload !== undefined);
+    const payloads = same.map(({ payload }) => fromHex(payload));
+    this.hello.show(payloads, KINDS_OF_HELLO[packet.type], this.columns, { quinn: false });
   }
 
   // Shows the payload of the packet in which a byte or a field was chosen, and its frame.

@@ -3,25 +3,22 @@
 import { element } from "./rows.js";
 import { count } from "./shown.js";
 
-const MOST_SHOWN = 500;
-
 function findingText({ record, sender, type, number, seen, expected, rfc, section, count: times }) {
   const which = `Record ${record}, ${sender}, ${type}${number === undefined ? "" : ` ${number}`}`;
   const often = times > 1 ? ` ${times} times.` : "";
   return `${which}: ${seen}. Expected: ${expected}.${often} RFC ${rfc}, section ${section}`;
 }
 
-// Shows findings; |go| is called with the index of a packet.
-export function showFindings(box, title, findings, go) {
-  title.textContent = findings.length === 0 ? "No rule is broken, as far as the capture shows"
-    : `${count(findings.length, "rule")} broken`;
-  box.replaceChildren(...findings.slice(0, MOST_SHOWN).map((finding) => {
+// Shows the first findings of |all|; |go| is called with the index of a packet.
+export function showFindings(box, title, findings, all, go) {
+  title.textContent = all === 0 ? "No rule is broken, as far as the capture shows" : `${count(all, "rule")} broken`;
+  box.replaceChildren(...findings.map((finding) => {
     const button = element("button", "finding", findingText(finding), { type: "button" });
     button.disabled = finding.row === null;
     button.addEventListener("click", () => go(finding.row));
     return button;
   }));
-  if (findings.length > MOST_SHOWN) {
-    box.append(element("p", "hint", `${findings.length - MOST_SHOWN} more, which the saved objects have.`));
+  if (all > findings.length) {
+    box.append(element("p", "hint", `${all - findings.length} more, which quic-wire check prints.`));
   }
 }

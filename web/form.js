@@ -19,8 +19,9 @@ export class Form {
     // What has no control of its own: which of several inputs is shown, and what packets are opened with.
     this.at = 0;
     this.opened = {};
-    // Whether the user chose how lines are read.
+    // Whether the user chose how lines are read, and who reads transport parameters.
     this.lines = "auto";
+    this.isSideChosen = false;
   }
 
   get elements() {
@@ -53,8 +54,13 @@ export class Form {
     this.other.value = state.other;
     this.firstId.value = state.firstId;
     this.lines = state.lines;
+    this.isSideChosen = state.mode === "params";
     this.at = state.at;
     this.opened = { ...state.opened };
+  }
+
+  set side(side) {
+    this.elements.side.value = side;
   }
 
   get text() {
@@ -90,13 +96,14 @@ export class Form {
     this.lines = "auto";
     this.at = 0;
     this.opened = {};
+    this.isSideChosen = false;
   }
 
-  // Shows the choices of the mode, and which entries can't be read.
-  mark(isText, entries) {
+  // Shows the choices of the mode in which the text is read, and which entries can't be read.
+  mark(isText, entries, mode) {
     const { elements } = this;
     for (const choices of this.form.querySelectorAll(".choices")) {
-      choices.hidden = choices.dataset.mode !== elements.mode.value;
+      choices.hidden = choices.dataset.mode !== mode;
     }
     // The RFC leaves no choice of these.
     for (const name of ["strict", "grease"]) {

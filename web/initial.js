@@ -2,6 +2,8 @@
 // follow from the destination id of the client's first packet (RFC 9001, section 5.2; RFC 9369, section 3.3).
 
 import { fromHex } from "./bytes.js";
+import { INITIAL } from "./layout.js";
+import { readBytes } from "./reading.js";
 
 // For each version, the salt of its secrets and the prefix of the labels of its keys.
 const INITIAL_SALTS = new Map([
@@ -94,4 +96,25 @@ export async function openInitial(bytes, packet, ids, unprotect) {
     }
   }
   return null;
+}
+
+// The payloads of a side's Initial packets in datagrams, with keys that follow from an id. |library| reads the
+// datagrams, by these choices.
+export async function initialPayloads(library, datagrams, choices, { id, side }) {
+  const payloads = [];
+  for (const bytes of datagrams) {
+    const reading = readBytes(library, bytes, { ...choices, mode: "datagram" });
+    const packets = Array.from({ length: reading.whole }, (_, index) => reading.packet(index));
+    for (const packet of packets.filter(({ kind, version }) => kind === INITIAL && hasInitialKeys(version))) {
+      const found = await openInitial(bytes, packet, [id], (mask) => {
+        // Something else may be held by now.
+        library.hold(bytes);
+        return library.unprotect(packet, mask);
+      });
+      if (found?.side === side) {
+        payloads.push(found.plain);
+      }
+    }
+  }
+  return payloads;
 }

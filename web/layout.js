@@ -68,6 +68,7 @@ export const ACK = 0x02;
 
 // Kinds of packets.
 export const INITIAL = 0;
+export const HANDSHAKE = 2;
 export const RETRY = 3;
 export const SHORT = 4;
 export const VERSION_NEGOTIATION = 5;

@@ -9,6 +9,8 @@ const FLAGS = { rfc: 1, shortTypes: 2, greasedBit: 4 };
 // What fields are asked of.
 const FIELDS_OF = { frame: 0, packet: 1, entry: 2, value: 3 };
 const NO_LIMIT = 0xffffffff;
+// What bytes_hello returns for a message that isn't whole.
+const PARTIAL = 3;
 
 // The kinds of frames by their types.
 const KINDS = Uint16Array.from({ length: Math.max(...FRAMES.keys()) + 1 }, (_, type) => FRAMES.get(type)?.kind ?? 0);
@@ -127,6 +129,15 @@ export class Library {
       return { bytes: new Uint8Array(this.module.bytes()), error: null };
     }
     return { bytes: null, error: this.frameError(this.module.words, ...this.module.numbers()) };
+  }
+
+  // The transport parameters in the CRYPTO frames of payloads, one payload after the other: who sent them, and their
+  // list, or nulls; and whether the message in which they may be isn't whole. The payloads are held then.
+  helloIn(payloads) {
+    this.hold(payloads);
+    const answer = this.calls.bytes_hello();
+    const sender = ["client", "server"][answer] ?? null;
+    return { sender, list: sender && new Uint8Array(this.module.bytes()), isPartial: answer === PARTIAL };
   }
 
   // The variable-length integer at |offset|, which must be whole: where it ends, and how many bytes its shortest

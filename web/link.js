@@ -3,6 +3,7 @@
 import { toHex } from "./bytes.js";
 import { readText } from "./entries.js";
 import { VERSIONS } from "./formats.js";
+import { GUESS } from "./guess.js";
 
 // Longer inputs are left out of the link.
 const MAX_LINKED = 65536;
@@ -69,11 +70,11 @@ function furtherWords(words, { mode, compare, other, opened, firstId }) {
 }
 
 // The fragment for a state, without its #. It has the inputs' bytes as digits; a text that isn't all bytes is in it
-// unchanged.
-export function fragmentOf(state, entries) {
+// unchanged. If the page guesses the mode, |guessed| is what it guessed.
+export function fragmentOf(state, entries, guessed = state.mode) {
   const words = new URLSearchParams();
   words.set("read", state.mode);
-  choiceWords(words, state);
+  choiceWords(words, { ...state, mode: guessed });
   if (entries.some(({ bytes }) => bytes === null)) {
     words.set("text", state.text.slice(0, MAX_LINKED));
     if (state.lines !== "auto") {
@@ -85,7 +86,7 @@ export function fragmentOf(state, entries) {
   if (state.at > 0 && entries.length > 1) {
     words.set("at", state.at);
   }
-  furtherWords(words, state);
+  furtherWords(words, { ...state, mode: guessed });
   return words.toString();
 }
 
@@ -110,7 +111,7 @@ const within = (number, most, otherwise) => (
 export function stateOf(fragment) {
   const words = new URLSearchParams(fragment);
   const state = { ...DEFAULT_STATE };
-  if (["frames", "datagram", "params"].includes(words.get("read"))) {
+  if ([GUESS, "frames", "datagram", "params"].includes(words.get("read"))) {
     state.mode = words.get("read");
   }
   state.quinn = words.get("quinn") === "1";

@@ -7,7 +7,7 @@ import { captureFragment, filterOf, isOfCaptures } from "./link.js";
 import { columns, Page } from "./page.js";
 
 // How many libraries the bytes need, and how many the packets of captures.
-const [OF_BYTES, OF_CAPTURES] = [4, 2];
+const [OF_BYTES, OF_CAPTURES] = [5, 3];
 const NEEDS = "It needs WebAssembly with 64-bit integers, and DecompressionStream, as browsers of 2024 and later have "
   + "them.";
 
@@ -38,6 +38,7 @@ class Doors {
   constructor(page, captures) {
     Object.assign(this, { page, captures });
     this.radios = { bytes: elementOf("door-bytes"), captures: elementOf("door-captures") };
+    page.onCapture = (bytes, format) => this.take(bytes, format);
     for (const [name, radio] of Object.entries(this.radios)) {
       radio.addEventListener("change", () => this.open(name));
     }
@@ -55,6 +56,13 @@ class Doors {
       this.captures.list.apply(filterOf(fragment));
     }
     this.show(name);
+  }
+
+  // Opens a capture whose bytes were pasted.
+  take(bytes, format) {
+    this.radios.captures.checked = true;
+    this.open("captures");
+    this.captures.take([new File([bytes], `pasted.${format}`)]);
   }
 
   show(name) {

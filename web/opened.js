@@ -3,6 +3,7 @@
 
 import { toHex } from "./bytes.js";
 import { readText } from "./entries.js";
+import { HelloView } from "./hello.js";
 import { hasCiphers, hasInitialKeys, NO_CIPHERS, openInitial } from "./initial.js";
 import { INITIAL, RETRY, VERSION_NEGOTIATION } from "./layout.js";
 import { packetName } from "./names.js";
@@ -38,13 +39,15 @@ function input(tag, name, label, value) {
 }
 
 export class Opened {
-  // |on| has lit(reading, spot), for what is lit in the payload; changed(), for packets that show more now; and ids(),
-  // the ids from which keys of Initial packets may follow, besides a packet's own.
-  constructor(library, boxes, on) {
+  // |on| has lit(reading, spot), for what is lit in the payload; changed(), for packets that show more now; ids(), the
+  // ids from which keys of Initial packets may follow, besides a packet's own; and payloads({ id, side }), those of a
+  // side's Initial packets in other datagrams.
+  constructor([library, helloLibrary], boxes, on) {
     this.library = library;
     this.boxes = boxes;
     this.on = on;
     this.payload = null;
+    this.hello = new HelloView(helloLibrary, boxes.hello, on.lit);
     this.views = new Views(boxes.grid, boxes.outline, (spot) => {
       if (this.payload) {
         on.lit(this.payload, spot);
@@ -104,6 +107,7 @@ export class Opened {
       this.say(index, []);
       return;
     }
+    one.found = found;
     one.own = `Opened as the ${found.side}’s, with keys from the id ${toHex(found.id) || "without a byte"}. `;
     one.fields[0].value = toHex(found.mask);
     one.fields[1].value = toHex(found.plain);
@@ -130,7 +134,7 @@ export class Opened {
     this.say(index, []);
     form.addEventListener("input", () => {
       this.saved[index] = { mask: fields[0].field.value, plain: fields[1].field.value };
-      this.notes[index].own = "";
+      Object.assign(this.notes[index], { own: "", found: null });
       this.open(index);
       this.view(this.viewed);
       this.on.changed();
@@ -196,6 +200,7 @@ export class Opened {
     this.boxes.views.hidden = bytes === null;
     if (bytes === null) {
       this.payload = null;
+      this.hello.hide();
       return;
     }
     const { packet } = this.notes[index];
@@ -205,6 +210,21 @@ export class Opened {
     this.boxes.title.textContent = `Payload of ${packetName(packet.kind)}, ${packet.begin}..${packet.end}`;
     this.boxes.note.textContent = isBad ? `${what}, ${text}.` : `${what}.`;
     this.views.show(this.payload, this.columns);
+    this.showHello(this.notes[index]);
+  }
+
+  // Shows the transport parameters in the payloads of the datagram's packets of a kind: they have one sender. A
+  // ClientHello may go on in other datagrams.
+  async showHello({ packet: { kind }, found }) {
+    const { reading, payload, columns } = this;
+    const own = this.notes.filter(({ packet }) => packet.kind === kind)
+      .map(({ fields: [, plain] }) => bytesIn(plain.value).bytes).filter(Boolean);
+    if (this.hello.show(own, kind, columns, reading.choices) && found) {
+      const others = await this.on.payloads(found);
+      if (this.reading === reading && this.payload === payload) {
+        this.hello.show([...own, ...others], kind, columns, reading.choices);
+      }
+    }
   }
 
   // Follows a spot of the datagram: if its packet is chosen, the payload of that, and the frame under it.

@@ -6,7 +6,10 @@ import { copied, sayOn } from "./copied.js";
 import { entriesOf, readText } from "./entries.js";
 import { EXAMPLES } from "./examples.js";
 import { Form } from "./form.js";
+import { CAPTURE, GUESS, guessing } from "./guess.js";
+import { helloBoxes } from "./hello.js";
 import { otherMode } from "./hint.js";
+import { initialPayloads } from "./initial.js";
 import { inspect } from "./inspector.js";
 import { INITIAL } from "./layout.js";
 import { DEFAULT_STATE, fragmentOf, isLinked, isOfCaptures, stateOf } from "./link.js";
@@ -36,7 +39,7 @@ export const columns = () => (narrow.matches ? 8 : 16);
 
 export class Page {
   // Each reading that is shown has its own library, since it asks for items when they are drawn.
-  constructor([library, besideLibrary, listLibrary, payloadLibrary]) {
+  constructor([library, besideLibrary, listLibrary, ...openedLibraries]) {
     this.library = library;
     this.besideLibrary = besideLibrary;
     this.listLibrary = listLibrary;
@@ -52,10 +55,12 @@ export class Page {
     const boxes = {
       details: byId("open"), packets: byId("open-packets"), views: byId("plain"), title: byId("plain-title"),
       note: byId("plain-note"), grid: byId("plain-grid"), outline: byId("plain-outline"),
+      hello: helloBoxes(byId, "hello"),
     };
-    this.opened = new Opened(payloadLibrary, boxes, {
+    this.opened = new Opened(openedLibraries, boxes, {
       lit: (reading, spot) => inspect(inspector, reading, spot), changed: () => this.openedChanged(),
       ids: () => this.knownIds(listLibrary),
+      payloads: (found) => initialPayloads(listLibrary, this.otherInputs(), this.chosen, found),
     });
   }
 
@@ -76,11 +81,11 @@ export class Page {
       const take = () => this.take({ ...this.form.state, ...NOTHING_FURTHER, ...example });
       byId("examples").append(plainButton(name, take));
     }
-    const { mode, text } = EXAMPLES[0];
+    const { text } = EXAMPLES[0];
     // The part of the page's address after #, as far as it is about bytes.
     const fragment = window.location.hash.slice(1);
     this.fragment = isOfCaptures(fragment) ? "" : fragment;
-    this.form.state = this.fragment ? stateOf(this.fragment) : { ...DEFAULT_STATE, mode, text };
+    this.form.state = this.fragment ? stateOf(this.fragment) : { ...DEFAULT_STATE, mode: GUESS, text };
     this.update();
   }
 
@@ -93,6 +98,8 @@ export class Page {
     } else if (target.name === "joined") {
       this.form.forget();
       this.form.lines = target.checked ? "one" : "each";
+    } else if (target.name === "side") {
+      this.form.isSideChosen = true;
     }
     this.update();
   }
@@ -154,20 +161,32 @@ export class Page {
 
   *steps(state) {
     const isLength = Number.isInteger(state.idLength) && state.idLength >= 0 && state.idLength <= 20;
-    this.chosen = isLength ? state : { ...state, idLength: DEFAULT_STATE.idLength };
-    this.found = { ...(yield* entriesOf(state.text, state.lines)), isBlank: state.text.trim() === "" };
+    const asked = isLength ? state : { ...state, idLength: DEFAULT_STATE.idLength };
+    const found = { ...(yield* entriesOf(state.text, state.lines)), isBlank: state.text.trim() === "" };
     yield;
+    const guessed = asked.mode === GUESS ? yield* guessing(this.listLibrary, found.entries, asked) : null;
+    yield;
+    Object.assign(this, { found, guessed, chosen: this.choicesOf(asked, guessed) });
+    this.form.side = this.chosen.side;
     this.form.at = Math.min(state.at, this.found.entries.length - 1);
     byId("entries").hidden = this.found.entries.length < 2;
     this.list.show(byId("entries").hidden ? [] : this.found.entries, this.form.at);
     yield* this.read();
   }
 
-  // Reads the input that was chosen.
+  // The choices by which inputs are read: the mode that was guessed, unless one was chosen; so is the side that reads
+  // parameters.
+  choicesOf(asked, guessed) {
+    const side = guessed && !this.form.isSideChosen ? guessed.side ?? asked.side : asked.side;
+    return guessed ? { ...asked, mode: guessed.mode, side } : asked;
+  }
+
+  // Reads the input that was chosen. Captures are read elsewhere.
   *read() {
     const { bytes, fault } = this.found.entries[this.form.at];
-    this.form.mark(!fault, this.found);
-    this.reading = bytes && readBytes(this.library, bytes, this.chosen);
+    const { mode } = this.chosen;
+    this.form.mark(!fault, this.found, mode);
+    this.reading = bytes && mode !== CAPTURE ? readBytes(this.library, bytes, this.chosen) : null;
     yield;
     this.later();
     yield* this.show();
@@ -203,6 +222,12 @@ export class Page {
     return [...ids].map(fromHex);
   }
 
+  // The other inputs, as far as they are searched.
+  otherInputs() {
+    const others = this.found.entries.filter(({ bytes }, at) => bytes !== null && at !== this.form.at);
+    return others.slice(0, MOST_LOOKED_AT).map(({ bytes }) => bytes);
+  }
+
   // Writes the link once nothing has changed for a while.
   later() {
     clearTimeout(this.timer);
@@ -215,7 +240,7 @@ export class Page {
       // Another link was just opened and will be followed.
       return;
     }
-    this.fragment = fragmentOf(this.form.state, this.found.entries);
+    this.fragment = fragmentOf(this.form.state, this.found.entries, this.chosen.mode);
     window.history.replaceState(null, "", `#${this.fragment}`);
   }
 
@@ -257,8 +282,10 @@ export class Page {
     // quic-show reads as quinn-proto does.
     byId("text").hidden = reading === null || !this.chosen.quinn;
     showStatus(byId("status"), reading, this.found, this.form.at, {
-      go: (place) => this.goTo(place), other: reading && otherMode(this.listLibrary, reading, this.chosen),
-      change: (mode) => this.change(mode),
+      go: (place) => this.goTo(place),
+      other: reading && !this.guessed && otherMode(this.listLibrary, reading, this.chosen),
+      change: (mode) => this.change(mode), guessed: this.guessed,
+      capture: ({ bytes }) => this.onCapture(bytes, this.guessed.format),
     });
     if (reading) {
       byId("items-title").textContent = { frame: "Frames", packet: "Packets", parameter: "Parameters" }[reading.unit];

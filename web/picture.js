@@ -8,7 +8,7 @@ const MOST_BYTES = 4096;
 const LEGEND_WIDTH = 232;
 
 // A colour of the style sheet as three numbers, which every viewer understands.
-function plainColor(context, color) {
+export function plainColor(context, color) {
   context.fillStyle = color;
   context.fillRect(0, 0, 1, 1);
   const [red, green, blue] = context.getImageData(0, 0, 1, 1).data;
@@ -40,11 +40,11 @@ class Colors {
   }
 }
 
-const escaped = (text) => text.replace(/[&<>"]/g, (sign) => `&#${sign.charCodeAt(0)};`);
+export const escaped = (text) => text.replace(/[&<>"]/g, (sign) => `&#${sign.charCodeAt(0)};`);
 
 const attributes = (values) => Object.entries(values).map(([name, value]) => ` ${name}="${value}"`).join("");
 
-function tag(name, values, inner) {
+export function tag(name, values, inner) {
   return inner === undefined ? `<${name}${attributes(values)}/>` : `<${name}${attributes(values)}>${inner}</${name}>`;
 }
 

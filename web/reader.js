@@ -4,9 +4,12 @@ import { Module } from "./module.js";
 
 const PIECE = 1 << 20;
 const GZIP = [0x1f, 0x8b];
-// What a capture is read for: its table, the packets of one record, the objects that quic-wire prints.
-const [TABLE, RECORD, OBJECTS] = [0, 1, 2];
+// What a capture is read for: its table, the packets of one record, the objects that quic-wire prints, the traces that
+// it writes of all connections, and that of one.
+const [TABLE, RECORD, OBJECTS, TRACES, TRACE] = [0, 1, 2, 3, 4];
 const SIDES = ["client", "server"];
+// How many findings the page gets with the summary. Those of a packet come with that.
+const MOST_FINDINGS = 500;
 
 // Why reading has ended without a fault: something else is read now.
 export class Cancelled extends Error {}
@@ -53,6 +56,20 @@ async function* inflatedPieces(file) {
   }
 }
 
+const isOfKind = (line, kind) => line.startsWith(`{"kind":"${kind}"`);
+
+// Adds pieces of traces to the parts of each connection's.
+function addPieces(traces, buffer) {
+  const view = new DataView(buffer);
+  for (let at = 0; at < buffer.byteLength;) {
+    const [connection, length] = [view.getUint32(at, true), view.getUint32(at + 4, true)];
+    const parts = traces.get(connection) ?? [];
+    parts.push(new Uint8Array(buffer, at + 8, length));
+    traces.set(connection, parts);
+    at += 8 + length;
+  }
+}
+
 async function piecesOf(file) {
   const front = new Uint8Array(await file.slice(0, GZIP.length).arrayBuffer());
   const isCompressed = GZIP.every((byte, at) => front[at] === byte);
@@ -66,12 +83,16 @@ export class Reader {
     this.module = null;
     // Why the file could only be read in part, or nothing.
     this.fault = "";
+    // For each finding its row, once there is a summary.
+    this.rowsOfFindings = [];
   }
 
-  // Starts a module of its own, so that what the last one took is free.
-  async begin(purpose, record = 0) {
+  // Starts a module of its own, so that what the last one took is free. |number| is a record or a connection; |name| is
+  // what traces call the capture.
+  async begin(purpose, number = 0, name = "") {
     const module = await Module.start(this.compiled);
-    module.calls.capture_begin(purpose, record);
+    module.putText(name);
+    module.calls.capture_begin(purpose, number);
     for (const text of this.keyLogs) {
       module.put(text);
       module.calls.capture_add_keylog();
@@ -99,9 +120,27 @@ export class Reader {
     this.module = await this.begin(TABLE);
     this.fault = await this.feed(this.module, after);
     this.module.calls.capture_finish();
-    this.ended = this.module.objects("capture_lines");
-    this.connections = this.ended.filter(({ kind }) => kind === "connection");
-    this.findings = this.module.objects("capture_check_lines").filter(({ kind }) => kind === "finding");
+    // Lines become objects once they are shown, since there may be many.
+    const lines = this.lines("capture_lines");
+    this.capture = JSON.parse(lines.find((line) => isOfKind(line, "capture")));
+    this.connections = lines.filter((line) => isOfKind(line, "connection"));
+    this.findings = this.lines("capture_check_lines").filter((line) => isOfKind(line, "finding"));
+  }
+
+  lines(name) {
+    this.module.calls[name]();
+    return this.module.text().split("\n");
+  }
+
+  // Findings by their positions among all, each with its row in the list of packets, or null.
+  findingsAt(positions) {
+    return positions.map((at) => ({ ...JSON.parse(this.findings[at]), row: this.rowsOfFindings[at] }));
+  }
+
+  // The findings at rows of the list of packets.
+  findingsIn(rows) {
+    const wanted = new Set(rows);
+    return this.findingsAt([...this.rowsOfFindings.keys()].filter((at) => wanted.has(this.rowsOfFindings[at])));
   }
 
   get count() {
@@ -117,18 +156,27 @@ export class Reader {
     const { calls } = this.module;
     calls.capture_summary();
     const summary = JSON.parse(this.module.text());
-    const capture = this.ended.find(({ kind }) => kind === "capture");
-    const findings = this.findings.map((one, at) => ({ ...one, row: summary.finding_rows[at]?.row ?? null }));
-    return { ...summary, finding_rows: undefined, capture, findings, connections: this.connections.length };
+    this.rowsOfFindings = summary.finding_rows.map(({ row }) => row ?? null);
+    const findings = this.findingsAt([...this.findings.keys()].slice(0, MOST_FINDINGS));
+    return {
+      ...summary, finding_rows: undefined, capture: this.capture, findings, finding_count: this.findings.length,
+      connections: this.connections.length,
+    };
   }
 
   // Connections, each with the transport parameters of both sides, or null.
   cards(from, to) {
     const parameters = (number, side) => (
       this.module.calls.capture_parameters(number, side) ? JSON.parse(this.module.text()) : null);
-    return this.connections.slice(from, to).map((connection) => ({
+    return this.connections.slice(from, to).map((line) => JSON.parse(line)).map((connection) => ({
       ...connection, parameters: SIDES.map((_, side) => parameters(connection.connection, side)),
+      streams: this.module.calls.capture_stream_count(connection.connection),
     }));
+  }
+
+  // The streams of a connection between two positions, each with what a side sent on it.
+  streams(connection, from, to) {
+    return this.module.objects("capture_streams", connection, from, to);
   }
 
   // Lists only what a filter lets through: what that is, or why the filter can't be read.
@@ -156,6 +204,7 @@ export class Reader {
   async detail(index, after = () => false) {
     this.module.calls.capture_detail(index);
     const detail = JSON.parse(this.module.text());
+    detail.findings = this.findingsIn(detail.packets.map((packet) => packet.index));
     if ("datagram" in detail) {
       return detail;
     }
@@ -167,7 +216,8 @@ export class Reader {
     const again = JSON.parse(module.text());
     // What was found later is only in the first table.
     const found = new Map(detail.packets.map((packet) => [packet.index, packet]));
-    return { ...again, packets: again.packets.map((packet) => ({ ...packet, ...found.get(packet.index) })) };
+    const packets = again.packets.map((packet) => ({ ...packet, ...found.get(packet.index) }));
+    return { ...again, packets, findings: detail.findings };
   }
 
   // What quic-wire capture --json prints, as bytes in parts.
@@ -185,6 +235,23 @@ export class Reader {
     module.calls.capture_finish();
     take();
     return parts;
+  }
+
+  // The traces that quic-wire capture --qlog writes, of all connections or of one: for each its parts, in bytes.
+  async traces(name, connection = null, after = () => false) {
+    const module = await (connection === null ? this.begin(TRACES, 0, name) : this.begin(TRACE, connection, name));
+    const traces = new Map();
+    const take = () => {
+      module.calls.capture_traces();
+      addPieces(traces, module.bytes());
+    };
+    await this.feed(module, (read) => {
+      take();
+      return after(read);
+    });
+    module.calls.capture_finish();
+    take();
+    return traces;
   }
 
   // What quic-wire check --json prints.

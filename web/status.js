@@ -1,5 +1,6 @@
 // The line that says how reading ended.
 
+import { CAPTURE, GUESSES } from "./guess.js";
 import { typeName } from "./names.js";
 import { element } from "./rows.js";
 import { count } from "./shown.js";
@@ -44,11 +45,26 @@ export function plainButton(text, click) {
 
 const OTHERS = { frames: "a payload", datagram: "a datagram" };
 
-// |reading| is null if the chosen input isn't bytes; |go| goes to an offset, |change| to the mode |other| that reads
-// what is rejected, if there is one.
-export function showStatus(box, reading, found, at, { go, other, change }) {
+// What the page guessed that the inputs are, if it did, with buttons for the other modes and for a capture.
+function guessParts(guessed, entry, { change, capture }) {
+  if (!guessed) {
+    return [];
+  }
+  const { mode, format } = guessed;
+  const others = Object.entries(GUESSES).filter(([one]) => one !== mode)
+    .flatMap(([one, words]) => [" ", plainButton(`Read as ${words}`, () => change(one))]);
+  const what = mode === CAPTURE ? `a capture in the format ${format}` : GUESSES[mode];
+  const open = mode === CAPTURE ? [" ", plainButton("Open the capture", () => capture(entry))] : [];
+  return [` Guessed: ${what}.`, ...open, ...others];
+}
+
+// |reading| is null if the chosen input isn't bytes, or is a capture; |on| has go(place), which goes to an offset;
+// change(mode); other, the mode that reads what is rejected, if there is one; guessed, what the page guessed, if it
+// did; and capture(entry), which opens an input as a capture.
+export function showStatus(box, reading, found, at, on) {
+  const { go, other, change } = on;
   const { fault, form } = found.entries[at];
-  box.className = `status ${fault || reading.error ? "bad" : "good"}`;
+  box.className = `status ${fault || reading?.error ? "bad" : "good"}`;
   const which = whichText(found, at);
   if (fault) {
     box.replaceChildren(element("strong", "", "No bytes"), `: ${fault}.${which}`);
@@ -59,12 +75,18 @@ export function showStatus(box, reading, found, at, { go, other, change }) {
     box.replaceChildren("Nothing to read yet: paste bytes above, or try one of the examples.");
     return;
   }
+  const guess = guessParts(on.guessed, found.entries[at], on);
+  if (reading === null) {
+    box.className = "status good";
+    box.replaceChildren(`${count(found.entries[at].bytes.length, "byte")}, read as ${form}.`, ...guess);
+    return;
+  }
   const bytes = count(reading.bytes.length, "byte");
   const from = reading.bytes.length > 0 ? `, read as ${form}` : "";
   const run = reading.hasRun ? " (a run of PADDING is one)" : "";
   const items = count(Math.min(reading.bad, reading.whole), reading.unit) + run;
   if (!reading.error) {
-    box.replaceChildren(`${items} in ${bytes}${from}.${which}`);
+    box.replaceChildren(`${items} in ${bytes}${from}.${which}`, ...guess);
     return;
   }
   const before = ` ${items} before it, in ${bytes}${from}.${which} `;
@@ -75,5 +97,5 @@ export function showStatus(box, reading, found, at, { go, other, change }) {
   if (other) {
     parts.push(" ", plainButton(`Read it as ${OTHERS[other]}`, () => change(other)));
   }
-  box.replaceChildren(...parts);
+  box.replaceChildren(...parts, ...guess);
 }

@@ -1,31 +1,15 @@
 // Packet numbers over time: a picture of a connection, with axes, in which a part can be enlarged and a packet chosen.
 
-// Each point is six numbers: time, packet number, side, state, space, and the packet's index.
-const POINT = 6;
-const MARGIN = { left: 64, right: 12, top: 10, bottom: 34 };
-const TICKS = 6;
+import { chartOf, DOT, LOST, MARGIN, placeIn, POINT, ticksOf } from "./chart.js";
+import { plainColor } from "./picture.js";
+
 // How far a click may be from a point, in pixels.
 const NEAR = 18;
 // How far a drag must go to enlarge a part.
 const LEAST_DRAG = 8;
-const LOST = [2, 3];
 // The colours, by their names in the style sheet.
 const COLORS = { ink: "--ink", line: "--line", client: "--accent", server: "--good", lost: "--bad" };
 export const STATES = ["not acknowledged", "acknowledged", "lost", "acknowledged, had counted as lost"];
-
-// Round numbers between two others, for an axis.
-export function ticksBetween(from, to, most = TICKS) {
-  const rough = (to - from) / most;
-  const power = 10 ** Math.floor(Math.log10(rough));
-  const step = power * [1, 2, 5, 10].find((factor) => factor * power >= rough);
-  const first = Math.ceil(from / step);
-  return Array.from({ length: Math.floor(to / step) - first + 1 }, (_, at) => (first + at) * step);
-}
-
-// A number of an axis, with as many digits as the next one needs to differ.
-function tickText(value, step) {
-  return value.toFixed(Math.max(0, Math.min(9, Math.ceil(-Math.log10(step)))));
-}
 
 export class Timeline {
   // |on| has choose(index) and spot(text), which says what is near the pointer.
@@ -67,12 +51,8 @@ export class Timeline {
 
   // Where a time and a number are in the picture.
   place(time, number) {
-    const [begin, end, least, most] = this.view;
     const { clientWidth: width, clientHeight: height } = this.canvas;
-    return [
-      MARGIN.left + ((time - begin) / (end - begin)) * (width - MARGIN.left - MARGIN.right),
-      height - MARGIN.bottom - ((number - least) / (most - least)) * (height - MARGIN.top - MARGIN.bottom),
-    ];
+    return placeIn(this.view, { width, height }, time, number);
   }
 
   draw() {
@@ -110,20 +90,20 @@ export class Timeline {
   }
 
   axes(context, width, height) {
-    const [begin, end, least, most] = this.view;
+    const [begin, , least] = this.view;
+    const { times, numbers } = ticksOf(this.view);
     Object.assign(context, { fillStyle: this.colors.ink, strokeStyle: this.colors.line, lineWidth: 1 });
     context.textAlign = "center";
-    const times = ticksBetween(begin, end);
-    for (const time of times) {
+    for (const [time, text] of times) {
       const [x] = this.place(time, least);
       context.strokeRect(x, MARGIN.top, 0, height - MARGIN.top - MARGIN.bottom);
-      context.fillText(`${tickText(time, (end - begin) / TICKS)} s`, x, height - MARGIN.bottom + 16);
+      context.fillText(text, x, height - MARGIN.bottom + 16);
     }
     context.textAlign = "right";
-    for (const number of ticksBetween(least, most).filter(Number.isInteger)) {
+    for (const [number, text] of numbers) {
       const [, y] = this.place(begin, number);
       context.strokeRect(MARGIN.left, y, width - MARGIN.left - MARGIN.right, 0);
-      context.fillText(`${number}`, MARGIN.left - 8, y + 4);
+      context.fillText(text, MARGIN.left - 8, y + 4);
     }
   }
 
@@ -134,7 +114,7 @@ export class Timeline {
       const isLost = LOST.includes(points[at + 3]);
       if (isLost === areLost) {
         const [x, y] = this.place(points[at], points[at + 1]);
-        const size = isLost ? 5 : 3;
+        const size = isLost ? DOT.lost : DOT.usual;
         context.fillStyle = isLost ? colors.lost : points[at + 2] === 0 ? colors.client : colors.server;
         // Sides differ in shape too: the server's are hollow.
         if (points[at + 2] === 0 || isLost) {
@@ -145,6 +125,16 @@ export class Timeline {
         }
       }
     }
+  }
+
+  // What is shown, as an SVG file with a title.
+  file(title) {
+    const { points, view, canvas } = this;
+    const context = document.createElement("canvas").getContext("2d", { willReadFrequently: true });
+    const ground = getComputedStyle(canvas.closest(".panel")).backgroundColor;
+    const colors = Object.fromEntries(Object.entries({ ...this.colors, ground }).map(([name, color]) => (
+      [name, plainColor(context, color)])));
+    return chartOf(points, view, { width: canvas.clientWidth, height: canvas.clientHeight }, colors, title);
   }
 
   // What is dragged over, and the chosen packet.

@@ -1,9 +1,13 @@
 // The page's worker: reads captures, and answers what the page asks about them. It is a program of its own.
 
 import { Cancelled, HeldFile, Reader } from "./reader.js";
+import { tarParts } from "./tar.js";
 
 // How often progress is reported, in milliseconds.
 const PAUSE = 100;
+const OBJECT_LINES = "application/x-ndjson";
+const TRACE_TYPE = "application/qlog+json-seq";
+const ARCHIVE_TYPE = "application/x-tar";
 const STOPPED = "the module has stopped; if the capture is large, it may need more memory than the module has, 1 GB";
 
 class Session {
@@ -71,6 +75,10 @@ class Session {
     this.tell("position", run, { index, at: this.reader.position(index) });
   }
 
+  streams({ connection, from, to }, run) {
+    this.tell("streams", run, { connection, from, list: this.reader.streams(connection, from, to) });
+  }
+
   points({ connection }, run) {
     const points = this.reader.points(connection);
     postMessage({ type: "points", run, connection, points }, [points.buffer]);
@@ -81,15 +89,36 @@ class Session {
     this.tell("detail", run, { detail });
   }
 
-  async save(_, run) {
+  // Something to call as the capture is read again for a file, which isn't made if that is stopped.
+  untilStopped(run) {
     const progress = this.progress(this.reader.file, run);
-    const parts = await this.reader.objects((read) => {
+    return (read) => {
       if (progress(read)) {
         throw new Cancelled();
       }
       return false;
-    });
-    this.tell("saved", run, { blob: new Blob(parts, { type: "application/x-ndjson" }) });
+    };
+  }
+
+  async save({ name }, run) {
+    const parts = await this.reader.objects(this.untilStopped(run));
+    this.tell("saved", run, { blob: new Blob(parts, { type: OBJECT_LINES }), name: `${name}.jsonl` });
+  }
+
+  // Traces have the names that the program gives them. Several are in an archive.
+  async saveTraces({ name, connection }, run) {
+    const traces = await this.reader.traces(name, connection, this.untilStopped(run));
+    const files = [...traces].sort(([one], [other]) => one - other)
+      .map(([number, parts]) => [`${name}.${number}.sqlog`, parts]);
+    if (files.length === 1) {
+      const [[title, parts]] = files;
+      this.tell("saved", run, { blob: new Blob(parts, { type: TRACE_TYPE }), name: title });
+    } else if (files.length > 0) {
+      const blob = new Blob(tarParts(files), { type: ARCHIVE_TYPE });
+      this.tell("saved", run, { blob, name: `${name}.qlog.tar` });
+    } else {
+      this.tell("unsaved", run, { why: "no packet was opened of which a trace could tell" });
+    }
   }
 
   // Does what a message asks for, unless it is about a capture that is no longer read, or isn't yet.

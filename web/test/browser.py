@@ -76,6 +76,10 @@ class Browser:
         self.send("act", {"actions": [{"type": "pointer", "id": "mouse", "actions": actions}]})
 
 
+# The name of an element's id in WebDriver's answers.
+ELEMENT = "element-6066-11e4-a52e-4f735466cecf"
+
+
 class Driven(Browser):
     """A browser with a driver that speaks WebDriver, at |base|."""
 
@@ -92,6 +96,11 @@ class Driven(Browser):
 
     def send(self, command, body):
         return self.http("POST", f"{self.session}/{self.COMMANDS[command]}", body)
+
+    def choose(self, name, path):
+        """Chooses a file in the input with an id, as a person does."""
+        found = self.http("POST", f"{self.session}/element", {"using": "css selector", "value": f"#{name}"})
+        self.http("POST", f"{self.session}/element/{found[ELEMENT]}/value", {"text": path})
 
     def close(self):
         with contextlib.suppress(Exception):
@@ -216,6 +225,10 @@ class WebKit(Driven):
         return []
 
 
+# The types of what the page saves.
+SAVED = ["image/svg+xml", "application/x-ndjson", "application/qlog+json-seq", "application/x-tar"]
+
+
 class Firefox(Browser):
     """Firefox, by the commands of its own port (Marionette)."""
 
@@ -223,7 +236,7 @@ class Firefox(Browser):
     PREFERENCES = [
         ("marionette.port", "0"), ("datareporting.policy.dataSubmissionEnabled", "false"),
         ("browser.download.folderList", "2"), ("browser.download.alwaysOpenPanel", "false"),
-        ("browser.helperApps.neverAsk.saveToDisk", '"image/svg+xml,application/x-ndjson"'),
+        ("browser.helperApps.neverAsk.saveToDisk", f'"{",".join(SAVED)}"'),
         ("browser.download.always_ask_before_handling_new_types", "false"),
         ("network.dns.localDomains", f'"{ELSEWHERE}"'),
     ]
@@ -294,6 +307,11 @@ class Firefox(Browser):
     def send(self, command, body):
         value = self.command(self.COMMANDS[command], body)
         return value["value"] if isinstance(value, dict) and "value" in value else value
+
+    def choose(self, name, path):
+        """Chooses a file in the input with an id, as a person does."""
+        found = self.command("WebDriver:FindElement", {"using": "css selector", "value": f"#{name}"})
+        self.command("WebDriver:ElementSendKeys", {"id": found["value"][ELEMENT], "text": path})
 
     def inside(self, script, *arguments):
         """Runs a script in the browser itself."""

@@ -4,6 +4,8 @@ import glob
 import json
 import os
 import subprocess
+import tempfile
+from xml.dom import minidom
 
 from browser import DOWN, END, HOME, Failed
 from common import same
@@ -34,6 +36,8 @@ WIDE = """const boxes = [document.documentElement, ...document.querySelectorAll(
       .concat(document.documentElement.scrollWidth > window.innerWidth ? [document.body] : [])
       .map((one) => `${one.id} ${one.className}`);"""
 WIDTHS = (400, 800, 1280, 1920)
+# Captures of two connections and of one.
+TRACED = ("vectors/captures/ngtcp2-0-rtt.pcap", "rust/capture/tests/data/small.pcap")
 NOTE = "return document.getElementById('filter-note').textContent"
 
 
@@ -121,6 +125,7 @@ def shown(browser, address, top, program):
     choose(browser, [capture, keys])
     rows_agree(browser, packets)
     cards_agree(browser, connection)
+    streams_agree(browser, packets)
     filters(browser, packets)
     walk(browser, packets)
     return len(packets)
@@ -145,6 +150,57 @@ def cards_agree(browser, connection):
                          "[width, height]", "a picture")
     if min(size) < 100:
         raise Failed(f"the picture is {size}")
+
+
+def streams_agree(browser, packets):
+    """The table of streams has a row for each side that sends, with the frames and bytes of its STREAM frames."""
+    wanted = {}
+    for packet in packets:
+        for frame in packet.get("frames", []):
+            if frame["frame"] == "STREAM":
+                frames, seen = wanted.setdefault((frame["id"], packet["sender"]), ([], set()))
+                frames.append(frame)
+                seen.update(range(frame["offset"], frame["offset"] + frame["len"]))
+    browser.run("document.querySelector('#connections .stream-details').open = true")
+    rows = browser.until("const rows = [...document.querySelectorAll('#connections .streams tbody tr')]; "
+                         "return rows.length > 0 && rows.map((row) => [...row.cells].map((cell) => cell.textContent))",
+                         "the streams")
+    found = {(int(row[0].split(",")[0]), row[1]): (int(row[2]), int(row[3])) for row in rows}
+    for key, (frames, seen) in wanted.items():
+        same(found.get(key), (len(frames), len(seen)), f"frames and bytes of the stream {key}")
+
+
+def saved_otherwise(browser, address, top, program):
+    """Traces are those of `capture --qlog`, one as a file and several in an archive, and the picture is SVG. Returns
+    how many traces there are."""
+    count = 0
+    for name in TRACED:
+        capture, keys = f"{top}/{name}", f"{os.path.splitext(f'{top}/{name}')[0]}.keys"
+        browser.send("navigate", {"url": "about:blank"})
+        browser.go(f"{address}#captures")
+        choose(browser, [capture, keys])
+        with tempfile.TemporaryDirectory() as folder:
+            words = [program, "capture", capture, "--qlog", folder, "--keylog", keys]
+            subprocess.run(words, capture_output=True, check=False)
+            traces = {os.path.basename(one): read(one) for one in sorted(glob.glob(f"{folder}/*.sqlog"))}
+        if len(traces) == 1:
+            browser.run("document.querySelector('[aria-label=\"Save as qlog, connection 0\"]').click()")
+            same(browser.saved(next(iter(traces))), next(iter(traces.values())), f"the trace of {name}")
+        else:
+            browser.run("document.getElementById('save-traces').click()")
+            archive = browser.saved(f"{os.path.basename(name)}.qlog.tar")
+            for one, text in traces.items():
+                same((one in archive, text in archive), (True, True), f"{one} in the archive")
+        count += len(traces)
+    browser.until("return !document.getElementById('times').hidden", "the picture")
+    browser.run("document.getElementById('save-timeline').click()")
+    minidom.parseString(browser.saved(f"{os.path.basename(TRACED[-1])}.0.svg"))
+    return count
+
+
+def read(path):
+    with open(path, encoding="utf-8") as file:
+        return file.read()
 
 
 def filters(browser, packets):

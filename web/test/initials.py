@@ -16,6 +16,11 @@ OPENED = """const note = document.querySelector(".packet-note")?.textContent ?? 
         (line) => line.querySelector(".name").textContent === "Packet Number")?.querySelector(".value").textContent,
     };"""
 TEXT = "return document.getElementById('input').value"
+# RFC 9001, appendix A.2: the extension in the ClientHello.
+PARAMETERS_OF_A2 = ("0408ffffffffffffffff05048000ffff07048000ffff0801100104800075300901100f088394c8f03e515708"
+                    "06048000ffff")
+NAMES_OF_A2 = ["initial_max_data", "initial_max_stream_data_bidi_local", "initial_max_stream_data_uni",
+               "initial_max_streams_bidi"]
 BY_ITSELF, NOT_OPENED, NO_CIPHERS = "Opened as the ", "Neither its own id", "browsers give ciphers"
 
 
@@ -49,6 +54,7 @@ def opened(browser, address, top):
         if f"{BY_ITSELF}{side}’s, with keys from the id {ID}." not in found["note"]:
             raise Failed(f"{name}: {found['note']}")
     known_ids(browser, address, table)
+    parameters(browser, address, table["opened.a2"][0])
     examples(browser, address, table)
     return len(initials)
 
@@ -69,6 +75,18 @@ def known_ids(browser, address, table):
     browser.until("return !location.hash.includes('open=')", "a link without a payload")
     set_field(browser, ".packet [data-name=plain]", "01")
     browser.until("return location.hash.includes('open=0.2ec0d8356a.01')", "a link with a payload")
+
+
+def parameters(browser, address, client):
+    """The transport parameters in the ClientHello of A.2 are shown as fields."""
+    browser.go(f"{address}#read=datagram&ids=8&hex={client}")
+    title = "Transport parameters in the client’s ClientHello"
+    browser.until("return document.getElementById('hello-title').textContent === arguments[0]", title, title)
+    texts = "return [...document.querySelectorAll(arguments[0])].map((one) => one.textContent)"
+    same("".join(browser.run(texts, "#hello-grid .byte")), PARAMETERS_OF_A2, "their bytes")
+    same(browser.run(texts, "#hello-outline .item .name")[:len(NAMES_OF_A2)], NAMES_OF_A2, "their names")
+    browser.go(f"{address}#read=frames&hex=01")
+    same(browser.run("return document.getElementById('hello').checkVisibility()"), False, "a payload has none")
 
 
 def examples(browser, address, table):

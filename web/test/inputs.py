@@ -202,6 +202,50 @@ def hints(browser, address):
     return len(HINTS)
 
 
+# Texts of each kind, what the page guesses, and the mode whose reader is chosen then: a payload, the first bytes of the
+# client's Initial in RFC 9001, appendix A.2, a client's and a server's transport parameters.
+GUESSES = [
+    ("02406419020301" "0a05026869", "a payload", None),
+    ("c000000001088394c8f03e5157080000449e7b9aec34", "a datagram", None),
+    ("010480007530" "040480100000" "050480100000" "0a0103", "transport parameters", "client"),
+    ("000811223344556677880f0401020304021000112233445566778899aabbccddeeff", "transport parameters", "client"),
+    ("00000000: 0240 6419 0203 010a  .@d.....\n00000008: 0502 6869              ..hi", "a payload", None),
+]
+GUESSED = """const { elements } = document.getElementById("form");
+    const status = document.getElementById("status").textContent;
+    return [elements.mode.value, /Guessed: ([^.]*)\\./.exec(status)?.[1] ?? null];"""
+READ_AS = """[...document.querySelectorAll("#status button")].find((one) => one.textContent === arguments[0]).click()"""
+
+
+def guesses(browser, address, top):
+    """What is pasted is guessed, unless a mode was chosen; the other readers are a click away."""
+    browser.send("navigate", {"url": "about:blank"})
+    browser.go(address)
+    same(browser.run(GUESSED), ["auto", "a payload"], "the example at first")
+    for text, what, side in GUESSES:
+        browser.run(SET_INPUT, text)
+        same(browser.run(GUESSED), ["auto", what], f"the guess for {text!r}")
+        if side:
+            same(browser.run("return document.getElementById('form').elements.side.value"), side, f"who reads {text!r}")
+    text = GUESSES[1][0]
+    browser.run(SET_INPUT, text)
+    browser.until("return location.hash.startsWith('#read=auto&')", "a link that guesses")
+    browser.run(READ_AS, "Read as a payload")
+    same(browser.run(GUESSED), ["frames", None], "another reader")
+    for mode in ("frames", "datagram", "params"):
+        for text, _, _ in GUESSES:
+            set_form(browser, {"mode": mode}, text)
+            same(browser.run(GUESSED), [mode, None], f"{mode} was chosen for {text!r}")
+    with open(f"{top}/rust/capture/tests/data/small.pcap", "rb") as file:
+        set_form(browser, {"mode": "auto"}, file.read().hex())
+    same(browser.run(GUESSED), ["auto", "a capture in the format pcap"], "a capture")
+    browser.run(READ_AS, "Open the capture")
+    browser.until("return document.documentElement.dataset.capture === 'ready'", "the capture is read")
+    browser.until("return document.querySelectorAll('#packets [data-index]').length > 0", "its packets")
+    same(browser.run("return document.getElementById('bytes-door').hidden"), True, "the door of captures is open")
+    return len(GUESSES) + 1
+
+
 # ---- links
 
 STATES = [
@@ -212,6 +256,7 @@ STATES = [
     ({"mode": "params", "side": "server"}, "01 04 80 00 75 30"), ({"mode": "frames"}, "no bytes & more #?"),
     ({"mode": "frames"}, "01\n4001\n1e0101"), ({"mode": "frames"}, "10:00 sent 0x40000a00\n10:01 sent 0x01010101"),
     ({"mode": "frames"}, "40000a00\n0161"), ({"mode": "datagram", "compare": True, "idLength": 0}, "4001020304"),
+    ({"mode": "auto"}, "c000000001088394c8f03e5157080000449e7b9aec34"),
 ]
 SHOWN = """const { elements } = document.getElementById("form"); document.getElementById("text").open = true;
     return [elements.mode.value, elements.quinn.checked, elements.mode.value !== "frames" || elements.strict.checked,

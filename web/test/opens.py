@@ -1,5 +1,5 @@
 """opens.py PAGE: opens a page as a file in each installed browser. It must read its first input without a message in
-the console."""
+the console, and within a second after it was loaded for the second time."""
 import re
 import shutil
 import sys
@@ -7,16 +7,26 @@ import sys
 from browser import Chromium, Failed, Firefox
 from common import STATUS
 
+# In milliseconds.
+MOST = 1000
+# The time from the request of the page until its first input is read, once the page says that it is.
+STARTED = """return document.documentElement.dataset.state === "ready" && performance.now();"""
+
 
 def opens(kind, page):
     browser = kind()
     try:
         browser.go(f"file://{page}")
+        browser.send("navigate", {"url": "about:blank"})
+        browser.go(f"file://{page}")
+        took = browser.until(STARTED, "the page starts")
         status = browser.run(STATUS)
         errors = browser.errors()
         if errors or not re.match(r"\d+ frames .*in \d+ bytes", status):
             raise Failed(f"{browser.name} with the page as a file: {status!r} {errors}")
-        print(f"{browser.name} {browser.version}: {status}")
+        if took > MOST:
+            raise Failed(f"{browser.name} started the page in {took:.0f} ms, and at most {MOST} are allowed")
+        print(f"{browser.name} {browser.version}, {took:.0f} ms: {status}")
     finally:
         browser.close()
 

@@ -64,7 +64,7 @@ def all_by_keyboard(browser, address):
     browser.run("document.activeElement.blur(); window.scrollTo(0, 0);")
     browser.keys(TAB)
     same(browser.run("return document.activeElement.id"), "door-bytes", "the doors come first")
-    browser.keys(TAB, RIGHT)
+    browser.keys(TAB, RIGHT, RIGHT)
     same(browser.run("return document.getElementById('form').elements.mode.value"), "datagram", "the mode by keys")
     browser.keys(TAB)
     same(browser.run(ACTIVE)["box"], "input", "after the modes")

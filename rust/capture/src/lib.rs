@@ -61,4 +61,5 @@ pub mod opened;
 pub mod recovery;
 mod search;
 pub mod sink;
-mod tls;
+pub mod streams;
+pub mod tls;

@@ -1,6 +1,8 @@
 //! What following a connection needs of TLS: the first message of a client, of a server, and the first that is
 //! encrypted (RFC 8446, section 4; RFC 9001, section 8.2).
 
+use quic_wire::Side;
+use quic_wire::frame::{Frame, Iter};
 use std::collections::BTreeMap;
 
 /// The most bytes of CRYPTO data that wait for their message to be whole, and how many each piece counts besides its
@@ -17,6 +19,43 @@ const ALPN: u16 = 16;
 
 /// The most bytes of a server's name: those of a name in the DNS.
 const MOST_NAME: usize = 255;
+
+/// What the CRYPTO frames of payloads say of transport parameters.
+#[derive(Clone, Debug, PartialEq, Eq)]
+pub enum Hello {
+    /// The sender's list, in its ClientHello or EncryptedExtensions.
+    Parameters(Side, Vec<u8>),
+    /// Their first message has none, or there is no CRYPTO frame.
+    Nothing,
+    /// Their first message isn't whole: it goes on in other packets.
+    Partial,
+}
+
+impl Hello {
+    /// Reads payloads of a side and a number space one after the other, as one, up to what is no frame.
+    ///
+    /// ```
+    /// use quic_wire_capture::tls::Hello;
+    /// // The first bytes of a ClientHello, which has 0x1fc bytes.
+    /// assert_eq!(Hello::read(&[0x06, 0, 6, 1, 0, 1, 0xfc, 3, 3]), Hello::Partial);
+    /// assert_eq!(Hello::read(&[0x01]), Hello::Nothing);
+    /// ```
+    pub fn read(payloads: &[u8]) -> Hello {
+        let (mut stream, mut hello) = (CryptoStream::default(), Hello::Nothing);
+        for frame in Iter::new(payloads).into_iter().flatten().map_while(Result::ok) {
+            let Frame::Crypto(crypto) = frame else { continue };
+            hello = Hello::Partial;
+            if let Some(said) = stream.take(crypto.offset, crypto.bytes) {
+                return match said {
+                    Said::ClientHello { parameters: Some(list), .. } => Hello::Parameters(Side::Client, list),
+                    Said::EncryptedExtensions { parameters: Some(list), .. } => Hello::Parameters(Side::Server, list),
+                    _ => Hello::Nothing,
+                };
+            }
+        }
+        hello
+    }
+}
 
 /// What the first message of a side's CRYPTO data in a number space says.
 #[derive(Clone, Debug, PartialEq, Eq)]
@@ -202,6 +241,29 @@ mod tests {
             assert!(is_short, "{len}: {said:?}");
         }
         assert_eq!(CryptoStream::default().take(0, &[4, 0, 0, 0]), Some(Said::Nothing));
+    }
+
+    // RFC 8446, section 4.3.1: EncryptedExtensions of two extensions. Of the frames the second piece comes first.
+    #[test]
+    fn parameters_in_payloads() {
+        let extensions = [0, 16, 0, 5, 0, 3, 2, b'h', b'3', 0, 0x39, 0, 3, 4, 1, 9];
+        let message = [&[ENCRYPTED_EXTENSIONS, 0, 0, 18, 0, 16], &extensions[..]].concat();
+        let crypto = |from: usize, to: usize| [&[0x06, from as u8, (to - from) as u8], &message[from..to]].concat();
+        let (one, two) = (crypto(0, 9), crypto(9, message.len()));
+        let wanted = Hello::Parameters(Side::Server, vec![4, 1, 9]);
+        for payloads in [[&one[..], &two].concat(), [&[2, 0, 0, 0, 0], &two[..], &[0, 0], &one].concat()] {
+            assert_eq!(Hello::read(&payloads), wanted, "{payloads:?}");
+        }
+        for payloads in [&one, &two] {
+            assert_eq!(Hello::read(payloads), Hello::Partial, "{payloads:?}");
+        }
+        let hello = hello();
+        let client = [&[0x06, 0, 0x40, hello.len() as u8], &hello[..]].concat();
+        assert_eq!(Hello::read(&client), Hello::Parameters(Side::Client, vec![1, 2]));
+        // Without frames, without CRYPTO frames, another message, no frame before.
+        for payloads in [&[][..], &[0, 0, 1], &[0x06, 0, 4, 2, 0, 0, 0], &[&[0x21], &one[..], &two].concat()] {
+            assert_eq!(Hello::read(payloads), Hello::Nothing, "{payloads:?}");
+        }
     }
 
     // RFC 7301, section 3.1; RFC 6066, section 3.

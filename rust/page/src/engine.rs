@@ -1,6 +1,7 @@
 //! A capture that is read piece by piece, and what is found in it.
 
 use crate::filter::Filter;
+use crate::streams;
 use crate::table::{Filled, Inside, MOST_KEPT, Row, Table};
 use quic_wire::Side;
 use quic_wire::datagram::PacketRef;
@@ -10,14 +11,16 @@ use quic_wire_capture::follow::Follower;
 use quic_wire_capture::input::InputError;
 use quic_wire_capture::recovery::Threshold;
 use quic_wire_capture::sink::{Ended, Event, Rest, Sink, Unopened};
+use quic_wire_capture::streams::Streams;
 use quic_wire_check::checker::Checker;
 use quic_wire_check::finding::Finding;
 use quic_wire_check::rule::{Level, Rule};
 use quic_wire_check::rules;
 use quic_wire_cli::objects::{
-    CaptureJson, CheckForm, CheckJson, Checked, Filter as Shown, Form, Lines, Object, Report, Taker, Value, error_text,
-    words,
+    CaptureJson, CheckForm, CheckJson, Checked, Filter as Shown, Form, Lines, Object, Qlog, Report, Taker, Traces,
+    Value, error_text, words,
 };
+use std::borrow::Cow;
 use std::cell::{Cell, RefCell};
 use std::collections::{BTreeMap, HashMap};
 use std::ffi::OsStr;
@@ -28,17 +31,8 @@ pub const MOST_LINES: usize = 1 << 25;
 /// How many points a picture has at most. Of more packets it has every second one, every third one, or fewer.
 pub const MOST_POINTS: usize = 1 << 17;
 
-static ALL: Shown = Shown {
-    connections: Vec::new(),
-    sender: None,
-    numbers: Vec::new(),
-    frames: Vec::new(),
-    rejected: false,
-    lost: false,
-};
-
 /// What is made of a capture.
-#[derive(Clone, Copy, Debug, PartialEq, Eq)]
+#[derive(Clone, Debug, PartialEq, Eq)]
 pub enum Purpose {
     /// A table of all packets, whose bytes are kept as long as there is room.
     Table,
@@ -46,6 +40,9 @@ pub enum Purpose {
     Record(u64),
     /// The objects that `quic-wire capture --json` prints.
     Objects,
+    /// The traces that `quic-wire capture --qlog` writes: what they call the capture, and the connection that has one,
+    /// or all of them.
+    Traces(String, Option<usize>),
 }
 
 /// Lines that were written.
@@ -72,6 +69,20 @@ impl Lines for Written {
     }
 }
 
+/// Pieces of traces: of each the connection and how many bytes it has, as numbers of 4 bytes, the lowest byte first,
+/// and then its bytes.
+struct Pieces(Rc<RefCell<Vec<u8>>>);
+
+impl Traces for Pieces {
+    fn write(&mut self, connection: usize, text: &str, _: bool) {
+        if !text.is_empty() {
+            let mut pieces = self.0.borrow_mut();
+            [connection, text.len()].iter().for_each(|number| pieces.extend((*number as u32).to_le_bytes()));
+            pieces.extend_from_slice(text.as_bytes());
+        }
+    }
+}
+
 /// What was found at the end.
 #[derive(Default)]
 struct Found {
@@ -89,8 +100,10 @@ pub struct Engine {
     report: Report<'static>,
     checker: Checker,
     rules: usize,
+    streams: Streams,
     table: Rc<RefCell<Table>>,
     lines: Rc<Text>,
+    traces: Rc<RefCell<Vec<u8>>>,
     found: Found,
     filter: Filter,
     /// The rows that the filter lets through, unless it is empty.
@@ -102,6 +115,7 @@ pub struct Engine {
 struct All<'a> {
     report: &'a mut Report<'static>,
     checker: &'a mut Checker,
+    streams: &'a mut Streams,
     table: &'a RefCell<Table>,
 }
 
@@ -109,6 +123,7 @@ impl Sink for All<'_> {
     fn opened(&mut self, connection: &Connection, datagram: &Datagram<'_>, index: u64, event: &Event<'_>) {
         self.report.opened(connection, datagram, index, event);
         self.checker.opened(connection, datagram, index, event);
+        self.streams.opened(connection, datagram, index, event);
         match event {
             Event::Acknowledged { sent, .. } => self.table.borrow_mut().acknowledge(sent),
             Event::Lost(sent) => self.table.borrow_mut().lose(sent),
@@ -152,25 +167,34 @@ impl Engine {
         let (kept, most) = match purpose {
             Purpose::Table => (0..=u64::MAX, MOST_KEPT),
             Purpose::Record(record) => (record..=record, MOST_KEPT),
-            Purpose::Objects => (0..=0, 0),
+            Purpose::Objects | Purpose::Traces(..) => (0..=0, 0),
         };
         let table = Rc::new(RefCell::new(Table::new(kept, most)));
         let has_packets = purpose == Purpose::Objects;
         let lines = Rc::new(Text { most: if has_packets { 0 } else { MOST_LINES }, ..Text::default() });
-        let json = CaptureJson::new(Written(lines.clone()), has_packets, false);
+        let traces = Rc::default();
+        let mut shown = Shown::default();
+        let json = CaptureJson::new(Written(Rc::clone(&lines)), has_packets, false);
         let mut forms: Vec<Box<dyn Form>> = vec![Box::new(json)];
-        if !has_packets {
-            forms.push(Box::new(Filled(table.clone())));
+        match purpose {
+            Purpose::Objects => {}
+            Purpose::Table | Purpose::Record(_) => forms.push(Box::new(Filled(Rc::clone(&table)))),
+            Purpose::Traces(name, connection) => {
+                shown.connections.extend(connection);
+                forms.push(Box::new(Qlog::new(Pieces(Rc::clone(&traces)), &name)));
+            }
         }
         let musts: Vec<&'static Rule> = rules::all().filter(|rule| rule.level == Level::Must).collect();
         Engine {
             capture: Capture::default(),
             follower: Follower::default(),
-            report: Report::new(&ALL, forms),
+            report: Report::new(Cow::Owned(shown), forms),
             rules: musts.len(),
             checker: Checker::new(musts),
+            streams: Streams::default(),
             table,
             lines,
+            traces,
             found: Found::default(),
             filter: Filter::default(),
             shown: Vec::new(),
@@ -189,7 +213,7 @@ impl Engine {
     ///
     /// If the file can't be read on: why, in words.
     pub fn feed(&mut self, piece: &[u8]) -> Result<(), String> {
-        let Engine { capture, follower, report, checker, table, .. } = self;
+        let Engine { capture, follower, report, checker, streams, table, .. } = self;
         capture.feed(piece);
         loop {
             match capture.next() {
@@ -198,7 +222,7 @@ impl Engine {
                 Ok(Some(Item::Datagram(datagram))) => {
                     report.begin_at(datagram.time);
                     checker.note(&datagram);
-                    follower.take(&datagram, &mut All { report, checker, table });
+                    follower.take(&datagram, &mut All { report, checker, streams, table });
                 }
                 Err(error) => return Err(error_text(&InputError::File(error), capture.records())),
             }
@@ -210,8 +234,8 @@ impl Engine {
         if std::mem::replace(&mut self.is_finished, true) {
             return;
         }
-        let Engine { capture, follower, report, checker, table, .. } = self;
-        follower.finish(&mut All { report, checker, table });
+        let Engine { capture, follower, report, checker, streams, table, .. } = self;
+        follower.finish(&mut All { report, checker, streams, table });
         report.end(follower, capture);
         let checked = std::mem::take(checker).finish(follower);
         let text = Rc::new(Text::default());
@@ -244,6 +268,12 @@ impl Engine {
         self.lines.lines.take()
     }
 
+    /// The pieces of traces that were written since the last call: of each the connection and how many bytes it has, as
+    /// numbers of 4 bytes, the lowest byte first, and then its bytes.
+    pub fn traces(&self) -> Vec<u8> {
+        self.traces.take()
+    }
+
     /// What `quic-wire check --json` prints, after the end.
     pub fn check_lines(&self) -> &str {
         &self.found.lines
@@ -258,6 +288,7 @@ impl Engine {
         object.number("packets", table.rows().len() as u64);
         object.number("further_packets", table.further());
         object.number("further_connections", self.lines.further.get());
+        object.number("further_stream_frames", self.streams.further());
         object.number("secrets", self.follower.keylog.len() as u64);
         object.number("records", self.capture.records());
         object.flag("cut_off", self.capture.is_cut());
@@ -271,6 +302,19 @@ impl Engine {
     /// The transport parameters of a side of a connection, as an object of JSON, if they were read.
     pub fn parameters(&self, connection: usize, side: Side) -> Option<String> {
         self.table.borrow().parameters(connection, side).map(str::to_owned)
+    }
+
+    /// How many streams a connection has; each side that sends on one counts.
+    pub fn stream_count(&self, connection: usize) -> usize {
+        self.streams.of(connection).count()
+    }
+
+    /// The streams of a connection between two positions of their list, an object of JSON for each, a line each.
+    pub fn streams(&self, connection: usize, from: usize, to: usize) -> String {
+        let mut text = String::new();
+        let all = self.streams.of(connection).skip(from).take(to.saturating_sub(from));
+        all.for_each(|one| streams::write(one, &mut text));
+        text
     }
 
     /// Lists only the packets that have what the words of a text say. Returns what these are, in words.

@@ -7,6 +7,7 @@
 use crate::bytes::{self, Choices, Ending, Of};
 use crate::engine::{Engine, Purpose};
 use quic_wire::Side;
+use quic_wire_capture::tls::Hello;
 use std::cell::RefCell;
 
 // Why no capture is there.
@@ -80,16 +81,20 @@ pub extern "C" fn words_len() -> usize {
 
 // ---- captures
 
-/// Begins a capture: for a table of its packets (0), for the bytes of the packets of one record (1), or for the objects
-/// of its packets (2).
+/// Begins a capture: for a table of its packets (0), for the bytes of the packets of one record (1), for the objects of
+/// its packets (2), for the traces of all connections (3), or for that of one connection (4). In traces the capture has
+/// the name in the input.
 #[unsafe(no_mangle)]
-pub extern "C" fn capture_begin(purpose: u32, record: u32) {
-    let purpose = match purpose {
-        0 => Purpose::Table,
-        1 => Purpose::Record(record.into()),
-        _ => Purpose::Objects,
-    };
+pub extern "C" fn capture_begin(purpose: u32, number: u32) {
     with(|state| {
+        let name = || String::from_utf8_lossy(&state.input).into_owned();
+        let purpose = match purpose {
+            0 => Purpose::Table,
+            1 => Purpose::Record(number.into()),
+            2 => Purpose::Objects,
+            3 => Purpose::Traces(name(), None),
+            _ => Purpose::Traces(name(), Some(number as usize)),
+        };
         // What the last one had is freed before.
         state.engine = None;
         state.engine = Some(Engine::new(purpose));
@@ -132,6 +137,13 @@ pub extern "C" fn capture_lines() {
     with_engine(|engine, _, output, _| *output = engine.lines().into_bytes());
 }
 
+/// The pieces of traces that were written since the last call: of each the connection and how many bytes it has, as
+/// numbers of 4 bytes, the lowest byte first, and then its bytes.
+#[unsafe(no_mangle)]
+pub extern "C" fn capture_traces() {
+    with_engine(|engine, _, output, _| *output = engine.traces());
+}
+
 /// The lines about broken rules, an object of JSON each.
 #[unsafe(no_mangle)]
 pub extern "C" fn capture_check_lines() {
@@ -156,6 +168,20 @@ pub extern "C" fn capture_parameters(connection: u32, side: u32) -> u32 {
         }
         None => 0,
     })
+}
+
+/// How many streams a connection has; each side that sends on one counts.
+#[unsafe(no_mangle)]
+pub extern "C" fn capture_stream_count(connection: u32) -> usize {
+    with_engine(|engine, _, _, _| engine.stream_count(connection as usize))
+}
+
+/// The streams of a connection between two positions of their list, an object of JSON each, a line each.
+#[unsafe(no_mangle)]
+pub extern "C" fn capture_streams(connection: u32, from: u32, to: u32) {
+    with_engine(|engine, _, output, _| {
+        *output = engine.streams(connection as usize, from as usize, to as usize).into_bytes();
+    });
 }
 
 /// Takes the input as a filter. Returns 1, and what it lets through as text, or 0 and words.
@@ -290,6 +316,20 @@ pub extern "C" fn bytes_shortest(flags: u32) -> u32 {
             put(output, [ending.ty.is_some().into(), ending.ty.unwrap_or_default()]);
             0
         }
+    })
+}
+
+/// The transport parameters in the CRYPTO frames of the payloads, one after the other. Returns whose they are: 0 the
+/// client's, 1 the server's; 2 if the first message has none, 3 if it isn't whole.
+#[unsafe(no_mangle)]
+pub extern "C" fn bytes_hello() -> u32 {
+    with_held(0, u32::MAX, |held, _, output, _| match Hello::read(held) {
+        Hello::Parameters(side, list) => {
+            *output = list;
+            side as u32
+        }
+        Hello::Nothing => 2,
+        Hello::Partial => 3,
     })
 }
 

@@ -18,5 +18,6 @@ pub mod engine;
 pub mod exports;
 mod filter;
 mod store;
+mod streams;
 mod summary;
 mod table;

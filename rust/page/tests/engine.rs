@@ -7,6 +7,7 @@ use common::{FOLDER, Recorded, captures, object, objects};
 use quic_wire_page::bytes::{self, Choices, Of};
 use quic_wire_page::engine::{Engine, Purpose};
 use serde_json::Value;
+use std::collections::{BTreeMap, BTreeSet};
 use std::fs;
 
 fn hex(text: &str) -> Vec<u8> {
@@ -173,6 +174,75 @@ fn filters_list_what_they_say() {
     table.filter("").unwrap();
     assert_eq!(table.shown(), all.len());
     assert_eq!(table.rows(all.len(), all.len() + 9), "", "after the last one");
+}
+
+// The traces by connection, in their order.
+fn traces(engine: &Engine) -> BTreeMap<u32, String> {
+    let (pieces, mut traces) = (engine.traces(), BTreeMap::<u32, String>::new());
+    let mut rest = &pieces[..];
+    while let Some((numbers, after)) = rest.split_first_chunk::<8>() {
+        let [connection, len] = [0, 4].map(|at| u32::from_le_bytes(numbers[at..at + 4].try_into().unwrap()));
+        let (text, after) = after.split_at(len as usize);
+        traces.entry(connection).or_default().push_str(std::str::from_utf8(text).unwrap());
+        rest = after;
+    }
+    traces
+}
+
+// A trace has each packet that was opened and came once, and that of one connection is its part of all.
+#[test]
+fn traces_of_one_and_of_all() {
+    for recorded in captures(FOLDER) {
+        let name = || recorded.name.clone();
+        let all = traces(&recorded.read(Purpose::Traces(name(), None), 1 << 16));
+        let lines = objects(&recorded.read(Purpose::Objects, 1 << 20).lines());
+        for (connection, trace) in &all {
+            let (one, connection) = (*connection as usize, u64::from(*connection));
+            let alone = traces(&recorded.read(Purpose::Traces(name(), Some(one)), 1 << 16));
+            assert_eq!(alone.values().collect::<Vec<_>>(), [trace], "{}, {connection}", recorded.name);
+            let records: Vec<_> = trace.split_terminator('\n').map(|one| object(&one[1..])).collect();
+            assert_eq!(records[0]["trace"]["vantage_point"]["name"], recorded.name);
+            let numbers: Vec<_> = records.iter().filter_map(|one| one["data"]["header"].get("packet_number")).collect();
+            let is_its = |one: &&Value| one["connection"] == connection && one.get("again").is_none();
+            let wanted: Vec<_> = lines.iter().filter(is_its).filter_map(|one| one.get("number")).collect();
+            let lost = records.iter().filter(|one| one["name"] == "recovery:packet_lost").count();
+            assert_eq!(numbers.len() - lost, wanted.len(), "{}, {connection}: packets", recorded.name);
+        }
+        assert!(!all.is_empty() || lines.iter().all(|one| one.get("number").is_none()), "{}", recorded.name);
+    }
+}
+
+// The streams are those of the STREAM frames that are printed, byte by byte.
+#[test]
+fn streams_have_what_the_frames_have() {
+    let mut count = 0;
+    for recorded in captures(FOLDER) {
+        let mut wanted: BTreeMap<(u64, u64, String), (BTreeSet<u64>, u64)> = BTreeMap::new();
+        for packet in objects(&recorded.read(Purpose::Objects, 1 << 20).lines()) {
+            let is_stream = |one: &&Value| one["frame"] == "STREAM" && one.get("forbidden").is_none();
+            for frame in packet["frames"].as_array().into_iter().flatten().filter(is_stream) {
+                let number = |name: &str| frame[name].as_u64().unwrap();
+                let sender = packet["sender"].as_str().unwrap().to_string();
+                let key = (packet["connection"].as_u64().unwrap(), number("id"), sender);
+                let (bytes, sent) = wanted.entry(key).or_default();
+                let (offset, len) = (number("offset"), number("len"));
+                bytes.extend(offset..offset + len);
+                *sent += len;
+            }
+        }
+        let table = recorded.read(Purpose::Table, 1 << 20);
+        for ((connection, stream, sender), (bytes, sent)) in wanted {
+            let connection = connection as usize;
+            let listed = objects(&table.streams(connection, 0, table.stream_count(connection)));
+            let one = listed.iter().find(|one| one["stream"] == stream && one["sender"] == sender);
+            let one = one.unwrap_or_else(|| panic!("{}: no stream {stream} of the {sender}", recorded.name));
+            let found = (one["bytes"].as_u64().unwrap(), one["again"].as_u64().unwrap());
+            let there = bytes.len() as u64;
+            assert_eq!(found, (there, sent - there), "{}, stream {stream} of the {sender}", recorded.name);
+            count += 1;
+        }
+    }
+    assert!(count >= 100, "only {count} streams");
 }
 
 #[test]

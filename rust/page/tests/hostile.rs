@@ -5,6 +5,7 @@ mod common;
 
 use common::{FOLDER, Random, captures, object, objects};
 use quic_wire::Side;
+use quic_wire_capture::tls::Hello;
 use quic_wire_page::bytes::{self, Choices, Of};
 use quic_wire_page::engine::{Engine, Purpose};
 
@@ -48,6 +49,8 @@ fn ask(engine: &mut Engine, random: &mut Random) {
     object(&engine.summary());
     for connection in 0..3 {
         assert_eq!(engine.points(connection).len() % 48, 0);
+        let streams = engine.streams(connection, 0, usize::MAX);
+        assert_eq!(objects(&streams).len(), engine.stream_count(connection));
         for side in [Side::Client, Side::Server] {
             assert!(engine.parameters(connection, side).is_none_or(|text| object(&text).is_object()));
         }
@@ -75,7 +78,24 @@ fn changed_captures() {
         objects(&engine.lines());
         objects(engine.check_lines());
         assert!(fed.is_ok() || !fed.unwrap_err().is_empty());
+        if round % 8 == 0 {
+            let mut engine = Engine::new(Purpose::Traces("changed".into(), None));
+            engine.add_keylog(&keys);
+            let _ = file.chunks(size).try_for_each(|piece| engine.feed(piece));
+            engine.finish();
+            pieces(&engine.traces());
+        }
     }
+}
+
+// Pieces of traces, each of which ends with a record.
+fn pieces(mut rest: &[u8]) {
+    while let Some((numbers, after)) = rest.split_first_chunk::<8>() {
+        let len = u32::from_le_bytes(numbers[4..].try_into().unwrap()) as usize;
+        assert!(after[..len].starts_with(b"\x1e{") && after[..len].ends_with(b"}\n"));
+        rest = &after[len..];
+    }
+    assert!(rest.is_empty(), "a piece that is cut off");
 }
 
 #[test]
@@ -110,6 +130,9 @@ fn any_bytes() {
             }
         }
         bytes::integer(&bytes);
+        if let Hello::Parameters(_, list) = Hello::read(&bytes) {
+            assert!(list.len() < bytes.len());
+        }
     }
 }
 

@@ -14,10 +14,11 @@ use crate::args::Captures;
 use crate::{FAILED, say, status};
 use json::Json;
 use keys::KeyLogs;
-use qlog::Qlog;
+use qlog::{Folder, Qlog};
 use reading::{read, read_each};
 use report::{Form, Report};
 use screen::{Queue, Screen};
+use std::borrow::Cow;
 use std::ffi::OsStr;
 use std::process::ExitCode;
 use std::sync::Arc;
@@ -29,7 +30,7 @@ pub fn run(args: &Captures) -> ExitCode {
     let (logs, are_opened) = KeyLogs::open(&args.keylogs);
     let stems = qlog::stems(&args.files);
     let are_read = read_each(&args.files, &queue, |file, place, screen| {
-        let mut report = Report::new(&args.filter, forms(args, screen, &stems[place]));
+        let mut report = Report::new(Cow::Borrowed(&args.filter), forms(args, screen, &stems[place]));
         let read = read(file, &logs, &mut report, screen);
         if let Err(what) = &read {
             screen.say(format_args!("{}: {what}", file.to_string_lossy()));
@@ -60,7 +61,7 @@ fn forms<'s>(args: &Captures, screen: &'s Screen, stem: &OsStr) -> Vec<Box<dyn F
         false => Box::new(Text::new(screen, args.colours.is_on(), has_packets, has_names)),
     }];
     if let Some(folder) = &args.qlog {
-        forms.push(Box::new(Qlog::new(screen, folder, stem)));
+        forms.push(Box::new(Qlog::new(Folder::new(screen, folder, stem), &stem.to_string_lossy())));
     }
     forms
 }

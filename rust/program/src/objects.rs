@@ -6,6 +6,7 @@
 pub use crate::args::Filter;
 pub use crate::capture::json::Json as CaptureJson;
 pub use crate::capture::object::Object;
+pub use crate::capture::qlog::{Qlog, Traces};
 pub use crate::capture::reading::{Taker, said as error_text};
 pub use crate::capture::report::{Form, Packet, Part, Place, Report, Sum, Whole, frame_of, is_plain};
 pub use crate::capture::screen::Lines;

@@ -32,7 +32,7 @@ CONSTANTS = {
     },
     "Kinds of frames": {"PADDING": "FRAME_PADDING", "ACK": "FRAME_ACK"},
     "Kinds of packets": {
-        "INITIAL": "PACKET_INITIAL", "RETRY": "PACKET_RETRY", "SHORT": "PACKET_1RTT",
+        "INITIAL": "PACKET_INITIAL", "HANDSHAKE": "PACKET_HANDSHAKE", "RETRY": "PACKET_RETRY", "SHORT": "PACKET_1RTT",
         "VERSION_NEGOTIATION": "PACKET_VERSION_NEGOTIATION",
     },
     "A bit of a first byte": {"LONG_FORM": "BIT_LONG"},

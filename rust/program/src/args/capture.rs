@@ -20,7 +20,7 @@ pub struct Captures {
 
 /// Which packets are shown: those that have all that is given, and of each list one.
 #[cfg_attr(not(feature = "capture"), expect(dead_code, reason = "nothing reads captures"))]
-#[derive(Default)]
+#[derive(Clone, Default)]
 pub struct Filter {
     pub connections: Vec<usize>,
     pub sender: Option<Side>,

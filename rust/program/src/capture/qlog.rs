@@ -21,7 +21,7 @@ use quic_wire_capture::sink::{Rest, Unopened};
 use std::collections::{HashMap, HashSet};
 use std::ffi::{OsStr, OsString};
 use std::fs::{self, File};
-use std::io::{self, Write};
+use std::io::Write;
 use std::path::{Path, PathBuf};
 
 // How much text waits to be written at most, of a trace and of all.
@@ -31,33 +31,58 @@ const MOST: usize = 1 << 24;
 // RFC 7464, section 2.2.
 const RECORD: char = '\x1e';
 
-/// Writes traces to a folder.
-pub struct Qlog<'s> {
-    screen: &'s Screen,
-    folder: PathBuf,
-    /// What the names of the capture's traces begin with.
-    stem: OsString,
+/// What takes traces.
+pub trait Traces {
+    /// Takes the next text of a connection's trace, which is new if it is the first one.
+    fn write(&mut self, connection: usize, text: &str, is_new: bool);
+}
+
+/// Makes the traces of a capture.
+pub struct Qlog<T> {
+    to: T,
+    /// What the traces call the capture.
+    name: String,
     traces: HashMap<usize, Trace>,
     waiting: usize,
 }
 
-/// A file, and the end of it that isn't written yet.
+/// The end of a trace that isn't written yet.
 struct Trace {
-    path: PathBuf,
     is_there: bool,
     text: String,
 }
 
-impl Trace {
-    fn write(&mut self) -> io::Result<()> {
-        let is_there = std::mem::replace(&mut self.is_there, true);
-        let mut file = match is_there {
-            true => File::options().append(true).open(&self.path)?,
-            false => File::create(&self.path)?,
-        };
-        file.write_all(self.text.as_bytes())?;
-        self.text.clear();
-        Ok(())
+/// A folder with a file for each trace.
+pub struct Folder<'s> {
+    screen: &'s Screen,
+    folder: PathBuf,
+    /// What the names of the capture's traces begin with.
+    stem: OsString,
+}
+
+impl<'s> Folder<'s> {
+    /// A folder that is made if it isn't there.
+    pub fn new(screen: &'s Screen, folder: &OsStr, stem: &OsStr) -> Self {
+        let folder = PathBuf::from(folder);
+        if let Err(error) = fs::create_dir_all(&folder) {
+            screen.fail(format!("{}: {error}", folder.display()));
+        }
+        Folder { screen, folder, stem: stem.to_os_string() }
+    }
+}
+
+impl Traces for Folder<'_> {
+    fn write(&mut self, connection: usize, text: &str, is_new: bool) {
+        if self.screen.has_failed() {
+            return;
+        }
+        let mut name = self.stem.clone();
+        name.push(format!(".{connection}.sqlog"));
+        let path = self.folder.join(name);
+        let file = if is_new { File::create(&path) } else { File::options().append(true).open(&path) };
+        if let Err(error) = file.and_then(|mut file| file.write_all(text.as_bytes())) {
+            self.screen.fail(format!("{}: {error}", path.display()));
+        }
     }
 }
 
@@ -79,23 +104,17 @@ pub fn stems(files: &[OsString]) -> Vec<OsString> {
     files.iter().map(stem).collect()
 }
 
-impl<'s> Qlog<'s> {
-    pub fn new(screen: &'s Screen, folder: &OsStr, stem: &OsStr) -> Self {
-        let folder = PathBuf::from(folder);
-        if let Err(error) = fs::create_dir_all(&folder) {
-            screen.fail(format!("{}: {error}", folder.display()));
-        }
-        Qlog { screen, folder, stem: stem.to_os_string(), traces: HashMap::new(), waiting: 0 }
+impl<T: Traces> Qlog<T> {
+    /// Writes the traces of a capture with a name.
+    pub fn new(to: T, name: &str) -> Self {
+        Qlog { to, name: name.into(), traces: HashMap::new(), waiting: 0 }
     }
 
     // Adds an event to a connection's trace, which begins with the first one.
     fn event(&mut self, connection: &Connection, time: u64, name: &str, fill: impl FnOnce(&mut Object<'_>)) {
         let number = connection.number();
-        let trace = self.traces.entry(number).or_insert_with(|| {
-            let mut name = self.stem.clone();
-            name.push(format!(".{number}.sqlog"));
-            Trace { path: self.folder.join(name), is_there: false, text: header(connection, &self.stem) }
-        });
+        let begin = || Trace { is_there: false, text: header(connection, &self.name) };
+        let trace = self.traces.entry(number).or_insert_with(begin);
         let before = trace.text.len();
         record(&mut trace.text, |object| {
             object.plain("time", format_args!("{}", Millis(words::after(connection.times().0, time))));
@@ -113,11 +132,10 @@ impl<'s> Qlog<'s> {
     }
 
     fn write(&mut self, number: usize) {
-        let Some(trace) = self.traces.get_mut(&number).filter(|_| !self.screen.has_failed()) else { return };
+        let Some(trace) = self.traces.get_mut(&number) else { return };
         self.waiting = self.waiting.saturating_sub(trace.text.len());
-        if let Err(error) = trace.write() {
-            self.screen.fail(format!("{}: {error}", trace.path.display()));
-        }
+        self.to.write(number, &trace.text, !std::mem::replace(&mut trace.is_there, true));
+        trace.text.clear();
     }
 
     fn closed(&mut self, connection: &Connection, time: u64, side: Side, said: &Said) {
@@ -133,7 +151,7 @@ impl<'s> Qlog<'s> {
 }
 
 // The first record.
-fn header(connection: &Connection, stem: &OsStr) -> String {
+fn header(connection: &Connection, name: &str) -> String {
     let mut text = String::new();
     let id = Value::bytes(connection.first_dcid());
     record(&mut text, |object| {
@@ -148,7 +166,7 @@ fn header(connection: &Connection, stem: &OsStr) -> String {
                 object.word("time_format", "relative");
             });
             object.inner("vantage_point", |object| {
-                object.word("name", &stem.to_string_lossy());
+                object.word("name", name);
                 object.word("type", "network");
                 object.word("flow", "client");
             });
@@ -276,7 +294,7 @@ fn preferred_address(object: &mut Object<'_>, address: &PreferredAddress) {
     token(object, "stateless_reset_token", &bytes[..]);
 }
 
-impl Form for Qlog<'_> {
+impl<T: Traces> Form for Qlog<T> {
     fn begin(&mut self, _: &OsStr) {}
 
     fn opened(&mut self, place: &Place<'_>, packet: &Packet<'_>) {

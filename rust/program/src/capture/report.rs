@@ -17,6 +17,7 @@ use quic_wire_capture::follow::{Counts, Follower};
 use quic_wire_capture::opened::Opened;
 use quic_wire_capture::recovery::Sent;
 use quic_wire_capture::sink::{Ended, Event, Rest, Sink, Unopened};
+use std::borrow::Cow;
 use std::collections::{BTreeMap, HashMap};
 use std::ffi::OsStr;
 use std::net::SocketAddr;
@@ -150,7 +151,7 @@ pub fn is_plain(why: Unopened) -> bool {
 
 /// What is found, as far as it is to be shown.
 pub struct Report<'a> {
-    filter: &'a Filter,
+    filter: Cow<'a, Filter>,
     forms: Vec<Box<dyn Form + 'a>>,
     begun: Option<u64>,
     parts: Vec<Part>,
@@ -158,7 +159,7 @@ pub struct Report<'a> {
 }
 
 impl<'a> Report<'a> {
-    pub fn new(filter: &'a Filter, forms: Vec<Box<dyn Form + 'a>>) -> Self {
+    pub fn new(filter: Cow<'a, Filter>, forms: Vec<Box<dyn Form + 'a>>) -> Self {
         Report { filter, forms, begun: None, parts: Vec::new(), tallies: HashMap::new() }
     }
 

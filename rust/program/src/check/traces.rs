@@ -1,7 +1,7 @@
 //! Traces of what is checked: those of the mode `capture`, at whose ends are the rules that are broken.
 use super::{json, reason};
 use crate::args::Filter;
-use crate::capture::qlog::Qlog;
+use crate::capture::qlog::{Folder, Qlog};
 use crate::capture::reading::Taker;
 use crate::capture::report::Report as Packets;
 use crate::capture::screen::Screen;
@@ -13,6 +13,7 @@ use quic_wire_capture::follow::Follower;
 use quic_wire_capture::sink::{Ended, Event, Rest, Sink, Unopened};
 use quic_wire_check::checker::Checker;
 use quic_wire_check::finding::{Finding, Report};
+use std::borrow::Cow;
 use std::collections::HashMap;
 use std::ffi::OsStr;
 
@@ -39,7 +40,8 @@ impl<'a> Traces<'a> {
         stem: &OsStr,
         allowed: &'a [(String, String)],
     ) -> Self {
-        Traces { packets: Packets::new(filter, vec![Box::new(Qlog::new(screen, folder, stem))]), allowed }
+        let qlog = Qlog::new(Folder::new(screen, folder, stem), &stem.to_string_lossy());
+        Traces { packets: Packets::new(Cow::Borrowed(filter), vec![Box::new(qlog)]), allowed }
     }
 
     pub fn begin(&mut self, file: &OsStr) {

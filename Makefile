@@ -46,21 +46,21 @@ dist:
 	scripts/release --stale out/dist
 
 docs:
-	scripts/formats
-	mkdir -p out && scripts/format-page >out/FORMAT.md && mv out/FORMAT.md docs/FORMAT.md
-	scripts/tables
+	scripts/make/formats
+	mkdir -p out && scripts/make/format-page >out/FORMAT.md && mv out/FORMAT.md docs/FORMAT.md
+	scripts/make/tables
 	scripts/erase
 
 lint:
 	cargo fmt --all --check
 	$(CARGO) clippy --workspace --all-targets -- -D warnings
-	scripts/check-docs
+	scripts/check/docs
 
 vectors:
 	scripts/vectors $(wildcard out/lib)
 
 page:
-	scripts/web out/page
+	scripts/make/page out/page
 
 bench:
 	scripts/bench

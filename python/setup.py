@@ -1,7 +1,7 @@
 """Builds the module quic_wire._wire with the library quic_wire, the first of these that exists:
 
 - libquic_wire.a in the folder that QUIC_WIRE_LIB names
-- the library as C, as scripts/portable leaves it, in the folder that QUIC_WIRE_PORTABLE names, or in `portable` beside
+- the library as C, as scripts/make/portable leaves it, in the folder that QUIC_WIRE_PORTABLE names, or in `portable` beside
   this file: any machine with a C compiler and 64-bit integers builds it
 
 A wheel also has the program quic-wire if QUIC_WIRE_PROGRAM names its file.
@@ -31,7 +31,7 @@ COMPILE = [] if os.name == "nt" else ["-O2", "-fvisibility=hidden", "-ffunction-
 LINK = ["-Wl,--exclude-libs,ALL", "-Wl,--gc-sections", "-Wl,-z,relro,-z,now"] if sys.platform == "linux" else []
 NO_LIBRARY = (
     "setup.py: no library: set QUIC_WIRE_LIB to the folder of libquic_wire.a, or QUIC_WIRE_PORTABLE to what "
-    "scripts/portable made (README.md, Building)"
+    "scripts/make/portable made (README.md, Building)"
 )
 PORTABLE = ("quic_wire_proved.c", "quic_wire.c", "texts.c")
 

@@ -1,6 +1,6 @@
 // The formats of QUIC as data: the fields of frames and headers, transport parameters, error codes,
 // reasons.
-// Made by scripts/tables from docs/formats.json: change nothing here.
+// Made by scripts/make/tables from docs/formats.json: change nothing here.
 // docs/formats.schema.json explains the members. Keys are Numbers; bounds, defaults and values are BigInts.
 
 // Frames by their types. |kind| is one type for all of STREAM, of ACK and of DATAGRAM.

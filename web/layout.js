@@ -1,6 +1,6 @@
 // Structs and constants of c/include/quic_wire.h and arguments of calls, as they are in the module for callers of C,
 // whose pointers and sizes have 64 bits. The page uses the constants.
-// Made by scripts/tables from the header and the crates: change nothing here. scripts/test-web compares the structs
+// Made by scripts/make/tables from the header and the crates: change nothing here. scripts/check/browsers compares the structs
 // with what layout.c prints.
 
 // For each struct its size, and for each field its offset and how many bytes it has; for an array, all of them.

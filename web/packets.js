@@ -1,5 +1,5 @@
 // Packets of RFC 9001, appendix A, by their sections.
-// Made by scripts/tables from vectors/tables/ciphers.txt: change nothing here.
+// Made by scripts/make/tables from vectors/tables/ciphers.txt: change nothing here.
 
 export const RFC_9001 = {
   A2: "c000000001088394c8f03e5157080000449e7b9aec34d1b1c98dd7689fb8ec11d242b123dc9bd8bab936b47d92ec356c0bab7df5976d27cd"

@@ -194,7 +194,7 @@ extern "C" {
 /** What functions return.  Below 0 it is an error, which quic_wire_strerror
  * describes; from 0 on it is a count, a length or one of the first three.  The
  * numbers never change; new ones may be added. */
-/* Made by scripts/tables: */
+/* Made by scripts/make/tables: */
 typedef enum quic_wire_result {
   QUIC_WIRE_OK = 0,      /* reading is complete, or something was written */
   QUIC_WIRE_ITEM = 1,    /* an item was read */
@@ -265,7 +265,7 @@ typedef enum quic_wire_result {
 /* End of what is made. */
 
 /** The codes of a CONNECTION_CLOSE (RFC 9000, section 20.1). */
-/* Made by scripts/tables: */
+/* Made by scripts/make/tables: */
 typedef enum quic_wire_code {
   QUIC_WIRE_CODE_NO_ERROR = 0x00,
   QUIC_WIRE_CODE_INTERNAL_ERROR = 0x01,
@@ -351,7 +351,7 @@ typedef enum quic_wire_code {
 
 /** The kinds of frames: the frame's type, with one kind for all types of
  * STREAM, one for ACK and one for DATAGRAM. */
-/* Made by scripts/tables: */
+/* Made by scripts/make/tables: */
 typedef enum quic_wire_frame_kind {
   QUIC_WIRE_FRAME_PADDING = 0x00,
   QUIC_WIRE_FRAME_PING = 0x01,
@@ -545,7 +545,7 @@ typedef struct quic_wire_canon {
 /* ---- Packets (RFC 9000, section 17) */
 
 /** The kinds of packets. */
-/* Made by scripts/tables: */
+/* Made by scripts/make/tables: */
 typedef enum quic_wire_packet_kind {
   QUIC_WIRE_PACKET_INITIAL = 0,
   QUIC_WIRE_PACKET_0RTT = 1,
@@ -619,7 +619,7 @@ typedef enum quic_wire_side {
 } quic_wire_side;
 
 /** Bits of |present|: which optional parameters are there. */
-/* Made by scripts/tables: */
+/* Made by scripts/make/tables: */
 #define QUIC_WIRE_HAS_STATELESS_RESET_TOKEN 0x001
 #define QUIC_WIRE_HAS_DISABLE_ACTIVE_MIGRATION 0x002
 #define QUIC_WIRE_HAS_MAX_DATAGRAM_FRAME_SIZE 0x004
@@ -636,7 +636,7 @@ typedef enum quic_wire_side {
 /** Transport parameters.  If a parameter is absent, all its fields are 0, or
  * hold its default if it has one.  Ids are at the front of their bytes,
  * followed by zeros.  Compare reset tokens by quic_wire_reset_token_equal. */
-/* Made by scripts/tables: */
+/* Made by scripts/make/tables: */
 typedef struct quic_wire_params {
   uint32_t present;          /* QUIC_WIRE_HAS_STATELESS_RESET_TOKEN and so on */
   uint32_t reserved;         /* 0 */
@@ -765,7 +765,7 @@ typedef struct quic_wire_fields {
 #define QUIC_WIRE_ASSERT(so) _Static_assert(so, "the library's layout")
 #endif
 #ifdef QUIC_WIRE_ASSERT
-/* Made by scripts/tables: */
+/* Made by scripts/make/tables: */
 QUIC_WIRE_ASSERT(sizeof(quic_wire_canon) == 16);
 QUIC_WIRE_ASSERT(offsetof(quic_wire_canon, last_type) == 8);
 QUIC_WIRE_ASSERT(sizeof(quic_wire_range) == 16);

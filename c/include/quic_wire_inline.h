@@ -16,7 +16,7 @@
 
 /* The functions of the proved library.  Their pointers must not be NULL.  A
  * slice of its crates is a pointer and a length here. */
-/* Made by scripts/tables: */
+/* Made by scripts/make/tables: */
 int32_t quic_wire_ack_ranges_init_(quic_wire_range_iter *, const uint8_t *,
                                    size_t, const quic_wire_frame *);
 int32_t quic_wire_ack_ranges_next_(quic_wire_range_iter *, const uint8_t *,
@@ -169,7 +169,7 @@ static inline void *quic_wire_nothing_(void) {
 
 /* The functions that check their pointers and call the proved one of their
  * name, in the order of quic_wire.h. */
-/* Made by scripts/tables: */
+/* Made by scripts/make/tables: */
 QUIC_WIRE_API uint32_t quic_wire_close_code(int result) {
   return quic_wire_close_code_(result);
 }

@@ -408,7 +408,7 @@ QUIC_WIRE_NEAR int quic_wire_begins_(const uint8_t *payload, size_t payloadlen,
 
 /* Each of these reads frames of all kinds that have the same fields, and is
  * named after the first.  The type is |payload[0]|. */
-/* Made by scripts/tables: */
+/* Made by scripts/make/tables: */
 QUIC_WIRE_NEAR size_t quic_wire_read_ping_(const uint8_t *payload,
                                            const uint8_t *end,
                                            quic_wire_frame *frame) {
@@ -625,7 +625,7 @@ QUIC_WIRE_NEAR size_t quic_wire_read_datagram_(const uint8_t *payload,
  * |frame| that it gives.  They return where the frame ends, which is above 0,
  * or 0 for what they leave to quic_wire_frame_read; |frame| doesn't change
  * then. */
-/* Made by scripts/tables: */
+/* Made by scripts/make/tables: */
 /** PING (19.2). */
 QUIC_WIRE_NEAR size_t quic_wire_ping_read(const uint8_t *payload,
                                           size_t payloadlen,
@@ -840,7 +840,7 @@ quic_wire_frame_read_near(const uint8_t *payload, size_t payloadlen,
   size_t end = 0;
   if (payload && payloadlen && frame && (gaps || !room)) {
     switch (payload[0]) {
-/* Made by scripts/tables: */
+/* Made by scripts/make/tables: */
     case 0x01:
     case 0x1e:
       end = quic_wire_read_ping_(payload, payload + payloadlen, frame);
@@ -922,7 +922,7 @@ quic_wire_frame_read_near(const uint8_t *payload, size_t payloadlen,
  * if |destlen| is less, |dest| is NULL, or a number is above 2^62 - 1, of
  * streams above 2^60; |dest| doesn't change then, and bytes after the frame
  * never do. */
-/* Made by scripts/tables: */
+/* Made by scripts/make/tables: */
 /** PING (19.2). */
 QUIC_WIRE_NEAR size_t quic_wire_ping_write(uint8_t *dest, size_t destlen) {
   uint8_t *at = dest;

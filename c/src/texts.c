@@ -20,7 +20,7 @@ int quic_wire_check(uint32_t header) {
 
 const char *quic_wire_strerror(int result) {
   switch (result) {
-/* Made by scripts/tables: */
+/* Made by scripts/make/tables: */
   case QUIC_WIRE_ERR_ARGUMENT: return "invalid argument";
   case QUIC_WIRE_ERR_PLACE: return "place outside of the bytes";
   case QUIC_WIRE_ERR_KIND: return "no such kind";
@@ -57,7 +57,7 @@ const char *quic_wire_strerror(int result) {
 
 const char *quic_wire_type_name(uint64_t type) {
   switch (type) {
-/* Made by scripts/tables: */
+/* Made by scripts/make/tables: */
   case 0x00: return "PADDING";
   case 0x01: return "PING";
   case 0x02: return "ACK";

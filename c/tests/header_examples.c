@@ -1,4 +1,4 @@
-/* The examples at the top of quic_wire.h, which scripts/callers cuts out of it
+/* The examples at the top of quic_wire.h, which scripts/check/callers cuts out of it
  * as example-1.h to example-3.h: the third seals a packet, the second opens it,
  * and the first reads its frames, and those of a payload with a STREAM.  That of
  * quic_wire_near.h, near-1.h, reads such a frame too.  The cipher hides nothing:

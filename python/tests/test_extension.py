@@ -61,11 +61,13 @@ class Extension(unittest.TestCase):
         self.assertEqual((frame.begin, frame.end, found.offset), (5, 7, 7))
 
     def test_from_the_next_frame(self):
-        # Frames that were read ahead aren't lost.
-        found = q.frames(b"\x01" * 6)
-        next(found)
-        found.skip(3, 0x01)
-        self.assertEqual([(frame.begin, frame.end) for frame in found], [(3, 4), (4, 5), (5, 6)])
+        # Frames that were read ahead aren't lost, and the next one may be passed over alone.
+        for end in 2, 3:
+            with self.subTest(end):
+                found = q.frames(b"\x01" * 6)
+                next(found)
+                found.skip(end, 0x01)
+                self.assertEqual([frame.begin for frame in found], list(range(end, 6)))
 
     def test_another_iterator_goes_on(self):
         payload = bytes.fromhex("01" + "2404010805" + "0801")

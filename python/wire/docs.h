@@ -1,5 +1,5 @@
 /* SPDX-License-Identifier: MIT OR Apache-2.0 */
-/* Made by scripts/tables from python/src/quic_wire/_wire.pyi.in: change nothing here.
+/* Made by scripts/make/tables from python/src/quic_wire/_wire.pyi.in: change nothing here.
  * What Python says of each function of the module, DOC_name, and of each method, DOC_class_name: the signature, then
  * the documentation. WIRE_CALLS has a row for each that isn't called with one argument by position, or none: name,
  * Python's name, how many arguments are needed, how many may be passed by position, and their names, empty for those

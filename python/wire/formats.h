@@ -1,5 +1,5 @@
 /* SPDX-License-Identifier: MIT OR Apache-2.0 */
-/* Made by scripts/tables from docs/formats.json: change nothing here.
+/* Made by scripts/make/tables from docs/formats.json: change nothing here.
  * Rows of tables: the fields of every frame and of every packet, the kinds of both with their own fields, the
  * transport parameters in their order, the results and flags of readers. Before a file includes this one, it defines
  * what a row is; rows that it doesn't define are nothing. Each inclusion forgets the definitions.

@@ -10,7 +10,7 @@
   5.4.1
 - nothing is undefined in C
 
-Pointers have 64 bits, and then 32. What passed is noted in scripts/lib/near.sha256, which scripts/tables --check reads.
+Pointers have 64 bits, and then 32. What passed is noted in scripts/lib/near.sha256, which scripts/make/tables --check reads.
 
 near.py [PART ..]   all, or the named parts, such as stream_read; needs gcc, python3-z3 and python3-pycparser
 """

@@ -1,6 +1,6 @@
 // A driver of the test vectors with what the page of web/ reads as quinn-proto does: its items and their fields.
 //
-// node --experimental-default-type=module page.mjs MODULE, which scripts/page-module makes
+// node --experimental-default-type=module page.mjs MODULE, which scripts/make/page-module makes
 import fs from "node:fs";
 import readline from "node:readline";
 

@@ -86,7 +86,7 @@ def printed(program, command, lines):
     text = "".join(line + "\n" for line in lines)
     done = subprocess.run([program, *command.split()], input=text, capture_output=True, text=True, check=False)
     if done.returncode > 1:
-        raise SystemExit(f"test-web: {os.path.basename(program)} {command} ended with {done.returncode}: {done.stderr}")
+        raise SystemExit(f"browsers: {os.path.basename(program)} {command} ended with {done.returncode}: {done.stderr}")
     out = done.stdout.splitlines()
     if command in ends:
         return out
@@ -107,4 +107,4 @@ def cut(out, lines, command):
                 break
         yield "\n".join(out[begin:at])
     if at != len(out):
-        raise SystemExit(f"test-web: quic-show {command} printed {len(out)} lines and not {at}")
+        raise SystemExit(f"browsers: quic-show {command} printed {len(out)} lines and not {at}")

@@ -1,6 +1,6 @@
 """run.py TOP SITE QUIC_SHOW QUIC_WIRE LAYOUT [--pictures FOLDER] [--browser NAME]: tries the page.
 
-TOP is the repository, SITE the folder that scripts/web made, with the library's module quic_wire.wasm if the call of
+TOP is the repository, SITE the folder that scripts/make/page made, with the library's module quic_wire.wasm if the call of
 docs/CALLING.md is to be tried, QUIC_SHOW and QUIC_WIRE the programs that the page is compared with, LAYOUT what
 layout.c printed.
 """
@@ -252,4 +252,4 @@ if __name__ == "__main__":
     try:
         main()
     except Failed as failed:
-        sys.exit(f"test-web: {failed}")
+        sys.exit(f"browsers: {failed}")

@@ -17,7 +17,7 @@ from __future__ import annotations
 
 from collections.abc import Iterable
 
-# Made by scripts/tables:
+# Made by scripts/make/tables:
 from ._wire import (
     LIBRARY_VERSION, Ack, AckFrequency, ApplicationClose, ConnectionClose, Crypto, DataBlocked, Datagram, Frame,
     FrameIterator, Handshake, HandshakeDone, ImmediateAck, Initial, MaxData, MaxStreamData, MaxStreamsBidi,
@@ -43,7 +43,7 @@ from .parameters import Parameter, PreferredAddress, Side, TransportParameters, 
 
 __version__ = VERSION
 
-# Made by scripts/tables:
+# Made by scripts/make/tables:
 __all__ = [
     "LIBRARY_VERSION", "Ack", "AckFrequency", "ApplicationClose", "Checks", "Code", "ConnectionClose", "Constants",
     "Crypto", "DataBlocked", "Datagram", "Encodes", "Error", "ErrorKind", "Field", "Frame", "FrameError",

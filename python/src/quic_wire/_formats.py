@@ -1,6 +1,6 @@
 """The formats of QUIC as data: the fields of frames and headers, transport parameters, error codes.
 
-Made by scripts/tables from docs/formats.json: change nothing here.
+Made by scripts/make/tables from docs/formats.json: change nothing here.
 docs/formats.schema.json explains the members.
 """
 

@@ -1,4 +1,4 @@
-# Made by scripts/tables from _wire.pyi.in and docs/formats.json: change nothing here.
+# Made by scripts/make/tables from _wire.pyi.in and docs/formats.json: change nothing here.
 from collections.abc import Iterable, Iterator, Sequence
 from typing import Any, ClassVar, Optional, TypeVar, Union, final
 

@@ -53,7 +53,7 @@ class Checks(enum.IntFlag):
     QUINN = 0
     RFC = _wire.READ_RFC
 
-    # Made by scripts/tables:
+    # Made by scripts/make/tables:
     SHORT_TYPES = _wire.READ_SHORT_TYPES
     DATA_LIMIT = _wire.READ_DATA_LIMIT
     STREAM_LIMIT = _wire.READ_STREAM_LIMIT

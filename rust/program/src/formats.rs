@@ -1,6 +1,6 @@
 //! What the RFCs call the fields of frames, headers and parameters, where they describe them, and how
 //! these are shown.
-//! Made by scripts/tables from docs/formats.json: change nothing here.
+//! Made by scripts/make/tables from docs/formats.json: change nothing here.
 #![allow(dead_code)]
 
 /// A field, by its index in its row; 0 is the type of a frame, the first byte of a header.

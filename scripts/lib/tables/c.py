@@ -2,7 +2,7 @@
 import re
 import textwrap
 
-BEGIN, END = "/* Made by scripts/tables: */\n", "/* End of what is made. */\n"
+BEGIN, END = "/* Made by scripts/make/tables: */\n", "/* End of what is made. */\n"
 WIDTH = 80
 
 

@@ -3,7 +3,7 @@ from lib.tables import c, classes
 from lib.tables.formats import read
 
 PATH = "python/src/quic_wire/checks.py"
-BEGIN, END = "    # Made by scripts/tables:\n", "    # End of what is made.\n"
+BEGIN, END = "    # Made by scripts/make/tables:\n", "    # End of what is made.\n"
 
 
 def made(_):

@@ -6,7 +6,7 @@ import re
 TOP = os.path.dirname(os.path.dirname(os.path.dirname(os.path.dirname(os.path.realpath(__file__)))))
 FILE = "docs/formats.json"
 HEADER = "c/include/quic_wire.h"
-MADE = f"Made by scripts/tables from {FILE}: change nothing here."
+MADE = f"Made by scripts/make/tables from {FILE}: change nothing here."
 
 
 def read(path):

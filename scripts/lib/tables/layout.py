@@ -7,7 +7,7 @@ from lib.tables.formats import HEADER, filled, read
 PATH = "web/layout.js"
 BEGIN = f"""// Structs and constants of {HEADER} and arguments of calls, as they are in the module for callers of C,
 // whose pointers and sizes have 64 bits. The page uses the constants.
-// Made by scripts/tables from the header and the crates: change nothing here. scripts/test-web compares the structs
+// Made by scripts/make/tables from the header and the crates: change nothing here. scripts/check/browsers compares the structs
 // with what layout.c prints.
 
 """

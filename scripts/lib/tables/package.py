@@ -6,7 +6,7 @@ from lib.tables import c, stub
 from lib.tables.formats import read
 
 PATH = "python/src/quic_wire/__init__.py"
-BEGIN, END = "# Made by scripts/tables:\n", "# End of what is made.\n"
+BEGIN, END = "# Made by scripts/make/tables:\n", "# End of what is made.\n"
 CONSTANTS = ["LIBRARY_VERSION"]
 
 

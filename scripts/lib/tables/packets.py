@@ -6,7 +6,7 @@ from lib.tables.formats import read
 PATH = "web/packets.js"
 VECTORS = "vectors/tables/ciphers.txt"
 BEGIN = f"""// Packets of RFC 9001, appendix A, by their sections.
-// Made by scripts/tables from {VECTORS}: change nothing here.
+// Made by scripts/make/tables from {VECTORS}: change nothing here.
 
 """
 TESTS = {"A2": "sealed.a2", "A3": "sealed.a3"}

@@ -3,7 +3,7 @@ from lib.tables import classes
 from lib.tables.formats import FILE, read
 
 PATH = "python/src/quic_wire/_wire.pyi"
-BEGIN = f"# Made by scripts/tables from {PATH.rsplit('/', 1)[1]}.in and {FILE}: change nothing here.\n"
+BEGIN = f"# Made by scripts/make/tables from {PATH.rsplit('/', 1)[1]}.in and {FILE}: change nothing here.\n"
 # What a field is given as, and what it is.
 TYPES = {
     "number": ("int = 0", "int"), "count": ("int = 1", "int"), "ecn": ("Optional[int] = None", "Optional[int]"),

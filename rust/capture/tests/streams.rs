@@ -54,8 +54,9 @@ fn bytes_of_both_sides() {
         (3, Server, [1, 0, 0, 5], Some(5)),
     ];
     assert_eq!(rows(&streams, 0), wanted);
-    let gaps: Vec<_> = streams.of(0).nth(1).unwrap().2.gaps().collect();
-    assert_eq!((gaps, rows(&streams, 1)), (vec![30..50], vec![]));
+    let mut gaps = streams.of(0).nth(1).unwrap().2.gaps();
+    assert_eq!((gaps.next(), gaps.next()), (Some(30..50), None));
+    assert_eq!(rows(&streams, 1), []);
 }
 
 #[test]

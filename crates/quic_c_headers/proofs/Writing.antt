@@ -330,14 +330,6 @@ short_wrote words dst old new n s e within front back =
 
 -- ---- headers without a number
 
-pub bare_long : (k : HeaderKind) (words : HeaderFields) → word_of (row k) ≡ words.kind → IsBare k → words.kind ≢ 4
-bare_long kind.Retry words e bare = λ short. omega (arith, e, short)
-bare_long kind.VersionNegotiate words e bare = λ short. omega (arith, e, short)
-bare_long kind.Initial words e bare = absurd bare
-bare_long kind.ZeroRtt words e bare = absurd bare
-bare_long kind.Handshake words e bare = absurd bare
-bare_long kind.Short words e bare = absurd bare
-
 -- the fields of one, as they are written
 abbrev pub bare_fields : HeaderKind → HeaderFields → List ℕ → List ℕ → List ℕ
 bare_fields k words dst src =

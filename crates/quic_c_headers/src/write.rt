@@ -351,7 +351,7 @@ fn bare_first(kind: HeaderKind, words: &HeaderFields) -> u8
 
 // The version in it.
 #[inline(always)]
-fn version_of(kind: HeaderKind, words: &HeaderFields) -> u32
+fn bare_version(kind: HeaderKind, words: &HeaderFields) -> u32
     ensures { result ≡ bare_version kind words.now.version }
 {
     match kind {
@@ -381,7 +381,7 @@ fn write_bare(
         return i64::from(Failure::NoRoom.number());
     }
     let first = bare_first(kind, words);
-    let version = version_of(kind, words);
+    let version = bare_version(kind, words);
     store_long_start(dest, first, version, Exact(dst), Exact(src)) as i64
 }
 
@@ -410,7 +410,14 @@ pub extern "C" fn quic_wire_header_write_(
         HANDSHAKE => write_as(HeaderKind::Handshake, words, dst, src, token, dest),
         RETRY => write_bare(HeaderKind::Retry, words, dst, src, token, dest),
         SHORT => write_as(HeaderKind::Short, words, dst, src, token, dest),
-        VERSION_NEGOTIATION => write_bare(HeaderKind::VersionNegotiate, words, dst, src, token, dest),
+        VERSION_NEGOTIATION => write_bare(
+            HeaderKind::VersionNegotiate,
+            words,
+            dst,
+            src,
+            token,
+            dest,
+        ),
         _ => i64::from(why_not(words).number()),
     }
 }

@@ -21,8 +21,8 @@ returns-then-not-is_shaped c =
       ),
     )
 
-pub returns-then-dest : goal.returns-then-dest
-returns-then-dest c =
+pub returns-then-dest-dst : goal.returns-then-dest-dst
+returns-then-dest-dst c =
     let words = c.args.words.now in
     let k = c.args.kind in
     let dst : List ℕ = c.args.dst.now in

@@ -24,7 +24,7 @@ use Rattle.quic_header_encode.specs.Kinds.{long_front}
 use Rattle.quic_c_headers.specs.declared.words.HeaderFields.{HeaderFields}
 use Rattle.quic_c_headers.specs.Headers.{part_of, described_bytes, CanWriteHeader}
 use Rattle.quic_c_headers.specs.Headers.{word_of}
-use Rattle.quic_c_headers.specs.Headers.{first_word, worded_bytes, IsNumbered, IsShaped}
+use Rattle.quic_c_headers.specs.Headers.{bare_version, first_word, worded_bytes, IsBare, IsNumbered, IsShaped}
 use Rattle.quic_c_headers.specs.Headers.{WrotePacketHeader}
 
 -- whether the fixed bit is cleared
@@ -327,6 +327,29 @@ short_wrote words dst old new n s e within front back =
       front = all.0;
       count_is = all.1;
     }
+
+-- ---- headers without a number
+
+-- the fields of one, as they are written
+abbrev pub bare_fields : HeaderKind → HeaderFields → List ℕ → List ℕ → List ℕ
+bare_fields k words dst src =
+    long_front (first_word k words.flags + type_bits k words.version) (bare_version k words.version) dst src
+
+pub bare_stored : (k : HeaderKind) (words : HeaderFields) (dst src token : List ℕ) → IsBare k
+    → bare_fields k words dst src ≡ stored_described k words.length_len words dst src token
+bare_stored kind.Initial words dst src token bare = absurd bare
+bare_stored kind.ZeroRtt words dst src token bare = absurd bare
+bare_stored kind.Handshake words dst src token bare = absurd bare
+bare_stored kind.Short words dst src token bare = absurd bare
+bare_stored kind.Retry words dst src token bare = refl
+bare_stored kind.VersionNegotiate words dst src token bare =
+    let first : first_word kind.VersionNegotiate words.flags + 0 ≡ first_word kind.VersionNegotiate words.flags = omega arith in
+    ap (λ (n : ℕ). long_front n 0 dst src) first
+
+pub bare_length : (k : HeaderKind) (words : HeaderFields) (dst src : List ℕ)
+    → length (bare_fields k words dst src) ≡ 7 + length dst + length src
+bare_length k words dst src =
+    long_length (first_word k words.flags + type_bits k words.version) (bare_version k words.version) dst src
 
 -- ---- headers of packets with a number and a length
 

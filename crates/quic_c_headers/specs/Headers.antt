@@ -145,6 +145,16 @@ first_word kind.Short flags =
 first_word kind.VersionNegotiate flags = bit_or 0x80 (bit_xor 0x40 (flags % 0x80))
 first_word _ flags = 0xc0 - bit_value (has_bit 0x40 flags) 0x40
 
+-- a long header without a number: a Retry's, or a version negotiation's, whose version is 0
+abbrev pub IsBare : HeaderKind → Type 0
+IsBare kind.Retry = Unit {0}
+IsBare kind.VersionNegotiate = Unit {0}
+IsBare _ = ⊥
+
+abbrev pub bare_version : HeaderKind → ℕ → ℕ
+bare_version kind.VersionNegotiate version = 0
+bare_version _ version = version
+
 -- the bytes of a header of the kind, with that many zeros as its length
 abbrev pub worded_bytes : HeaderKind → HeaderFields → List ℕ → List ℕ → List ℕ → List ℕ
 worded_bytes kind words dst src token =

@@ -8,7 +8,7 @@ ghost use Rattle.quic_header_encode.specs.Kinds.{row};
 ghost use Rattle.quic_header_encode.specs.Writing.{token_by, type_bits, IsTyped};
 ghost use Rattle.quic_header_encode.specs.Kinds.{long_front};
 ghost use Rattle.quic_c_headers.specs.Headers.{part_of};
-ghost use Rattle.quic_c_headers.specs.Headers.{first_word, short_size, word_of, worded_bytes, AreParts, HasShortRoom, IsNumbered, IsShaped, StoresShort};
+ghost use Rattle.quic_c_headers.specs.Headers.{bare_version, first_word, short_size, word_of, worded_bytes, AreParts, HasShortRoom, IsBare, IsNumbered, IsShaped, StoresShort};
 ghost use Rattle.quic_c_headers.specs.Headers.{HasPossibleNumbers, IsReason, WritesHeader};
 ghost use Rattle.quic_results.specs.Results.{failed};
 
@@ -337,6 +337,54 @@ fn write_as(
     }
 }
 
+// The first byte of a header without a number.
+#[inline(always)]
+fn bare_first(kind: HeaderKind, words: &HeaderFields) -> u8
+    requires { IsBare kind }
+    ensures { result ≡ first_word kind words.now.flags + type_bits kind words.now.version }
+{
+    match kind {
+        HeaderKind::Retry => first_word(kind, words.flags) + kind.type_bits(words.version),
+        _ => first_word(kind, words.flags),
+    }
+}
+
+// The version in it.
+#[inline(always)]
+fn bare_version(kind: HeaderKind, words: &HeaderFields) -> u32
+    ensures { result ≡ bare_version kind words.now.version }
+{
+    match kind {
+        HeaderKind::VersionNegotiate => 0,
+        _ => words.version,
+    }
+}
+
+// Writes a Retry's header or a version negotiation, which have no number, as `quic_wire_header_write_` does.
+#[inline(always)]
+fn write_bare(
+    kind: HeaderKind,
+    words: &HeaderFields,
+    dst: &[u8],
+    src: &[u8],
+    token: &[u8],
+    dest: &mut [u8],
+) -> i64
+    requires kind { word_of (row kind) ≡ words.now.kind }
+    requires bare { IsBare kind }
+    ensures { WritesHeader words.now dst.now src.now token.now dest.old result dest.new }
+{
+    if !is_shaped(words, dst, src, token) {
+        return i64::from(why_not(words).number());
+    }
+    if dest.len() < 7 + dst.len() + src.len() {
+        return i64::from(Failure::NoRoom.number());
+    }
+    let first = bare_first(kind, words);
+    let version = bare_version(kind, words);
+    store_long_start(dest, first, version, Exact(dst), Exact(src)) as i64
+}
+
 /// Writes the header that `words` describes, with the ids of the receiver and of the sender and the token, unprotected,
 /// at the front of `dest` (RFC 9000, section 17). It returns how many bytes the header has; the packet number, if there
 /// is one, is at their end. The length of an Initial, 0-RTT or Handshake packet is zeros until `quic_wire_set_len_`.
@@ -360,9 +408,16 @@ pub extern "C" fn quic_wire_header_write_(
         INITIAL => write_as(HeaderKind::Initial, words, dst, src, token, dest),
         ZERO_RTT => write_as(HeaderKind::ZeroRtt, words, dst, src, token, dest),
         HANDSHAKE => write_as(HeaderKind::Handshake, words, dst, src, token, dest),
-        RETRY => write_as(HeaderKind::Retry, words, dst, src, token, dest),
+        RETRY => write_bare(HeaderKind::Retry, words, dst, src, token, dest),
         SHORT => write_as(HeaderKind::Short, words, dst, src, token, dest),
-        VERSION_NEGOTIATION => write_as(HeaderKind::VersionNegotiate, words, dst, src, token, dest),
+        VERSION_NEGOTIATION => write_bare(
+            HeaderKind::VersionNegotiate,
+            words,
+            dst,
+            src,
+            token,
+            dest,
+        ),
         _ => i64::from(why_not(words).number()),
     }
 }

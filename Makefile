@@ -4,7 +4,8 @@
 # make proofs     only the proofs, mutants and proved tests of the gate
 # make install    installs what make left below PREFIX, the libraries in PREFIX/LIBDIR, all below DESTDIR if it is set
 # make dist       packs a release in out/dist, for a trial
-# make docs       makes again what is made of other files: the format as data and as a page, tables, the erased crate
+# make docs       makes again what is made of other files: the format as data and as a page, the page of laws, tables, the
+#                 erased crate
 # make lint       checks the format and the habits of Rust, shell and Python
 # make vectors    runs the test vectors through what is built
 # make page       makes the web page in out/page
@@ -48,6 +49,7 @@ dist:
 docs:
 	scripts/make/formats
 	mkdir -p out && scripts/make/format-page >out/FORMAT.md && mv out/FORMAT.md docs/FORMAT.md
+	scripts/make/laws >out/LAWS.md && mv out/LAWS.md docs/LAWS.md
 	scripts/make/tables
 	scripts/erase
 

@@ -83,6 +83,11 @@ impl Follower {
         self.connections.values().map(Box::as_ref)
     }
 
+    /// The same from a number on.
+    pub fn connections_from(&self, number: usize) -> impl Iterator<Item = &Connection> {
+        self.connections.range(number..).map(|(_, connection)| connection.as_ref())
+    }
+
     /// What was counted.
     pub fn counts(&self) -> &Counts {
         &self.counts

@@ -3,6 +3,8 @@
 import { element, Rows } from "./rows.js";
 
 const PAGE_ROWS = 200;
+// How many pages are kept, the latest.
+const MOST_PAGES = 50;
 // After how many milliseconds without a key the filter is applied.
 const FILTER_DELAY = 150;
 
@@ -47,7 +49,8 @@ export class CaptureList {
     this.pages = new Map();
     this.count = 0;
     this.at = -1;
-    this.selected = -1;
+    // Whether the chosen row hasn't come yet.
+    this.isAwaited = false;
   }
 
   // Shows this many packets, from the first one on.
@@ -78,7 +81,7 @@ export class CaptureList {
     this.note.classList.toggle("fault", !isRead);
     this.note.textContent = isRead ? `${shown} shown: ${text}` : text;
     if (isRead) {
-      this.at = -1;
+      [this.at, this.isAwaited] = [-1, false];
       this.show(shown);
     }
   }
@@ -87,8 +90,17 @@ export class CaptureList {
 
   // A page of rows that came.
   take({ from, list }) {
-    this.pages.set(from / PAGE_ROWS, list);
+    const page = from / PAGE_ROWS;
+    this.pages.delete(page);
+    this.pages.set(page, list);
+    const [oldest] = this.pages.keys();
+    if (this.pages.size > MOST_PAGES) {
+      this.pages.delete(oldest);
+    }
     this.rows.refresh(true);
+    if (this.isAwaited) {
+      this.chooseRow();
+    }
   }
 
   // The row at a place of the list, if it came.
@@ -106,6 +118,8 @@ export class CaptureList {
     const line = element("div", "packet-row", "", { role: "option", id: `packet-${at}` });
     line.dataset.at = at;
     line.setAttribute("aria-selected", at === this.at);
+    line.setAttribute("aria-posinset", at + 1);
+    line.setAttribute("aria-setsize", this.count);
     if (!row) {
       line.append(element("span", "text", "…"));
       return line;
@@ -143,7 +157,13 @@ export class CaptureList {
     this.at = at;
     this.rows.refresh(true);
     this.list.setAttribute("aria-activedescendant", `packet-${at}`);
-    const row = this.rowAt(at);
+    this.chooseRow();
+  }
+
+  // Shows the chosen row, once it is there.
+  chooseRow() {
+    const row = this.rowAt(this.at);
+    this.isAwaited = !row;
     if (row) {
       this.choose(row);
     }
@@ -162,7 +182,7 @@ export class CaptureList {
       return;
     }
     this.rows.reveal(at);
-    this.at = at;
+    [this.at, this.isAwaited] = [at, false];
     this.rows.refresh(true);
     this.choose({ index });
   }

@@ -12,8 +12,7 @@ import { Timeline } from "./timeline.js";
 // What files begin with that are captures: pcap in both byte orders, with microseconds or nanoseconds; pcapng; gzip.
 const MAGIC_NUMBERS = ["a1b2c3d4", "d4c3b2a1", "a1b23c4d", "4d3cb2a1", "0a0d0d0a"];
 const COMPRESSED = "1f8b";
-// A key log of more bytes isn't read. Its beginning must have a line of a secret.
-const MOST_KEYS = 1 << 28;
+// The beginning of a key log must have a line of a secret.
 const BEGINNING_OF_KEYS = 1 << 20;
 const SECRET_LINE = /^[A-Z][A-Z0-9_]* [0-9a-fA-F]{64} [0-9a-fA-F]+/m;
 const NO_WORKERS = "This browser has no workers, in which captures are read.";
@@ -26,16 +25,23 @@ async function isCapture(file) {
   return MAGIC_NUMBERS.includes(front) || front.startsWith(COMPRESSED);
 }
 
-// The bytes of a key log.
-async function keyLogOf(file) {
-  if (file.size > MOST_KEYS) {
-    throw new Error(`${file.name} is no capture, and too long for a key log`);
+async function isKeyLog(file) {
+  return SECRET_LINE.test(await file.slice(0, BEGINNING_OF_KEYS).text());
+}
+
+// Sorts files into captures and key logs.
+async function sorted(files) {
+  const [captures, keyLogs] = [[], []];
+  for (const file of files) {
+    if (await isCapture(file)) {
+      captures.push(file);
+    } else if (await isKeyLog(file)) {
+      keyLogs.push(file);
+    } else {
+      throw new Error(`${file.name} is neither a capture (pcap, pcapng, also compressed by gzip) nor a key log`);
+    }
   }
-  const bytes = new Uint8Array(await file.arrayBuffer());
-  if (!SECRET_LINE.test(new TextDecoder().decode(bytes.subarray(0, BEGINNING_OF_KEYS)))) {
-    throw new Error(`${file.name} is neither a capture (pcap, pcapng, also compressed by gzip) nor a key log`);
-  }
-  return bytes;
+  return { captures, keyLogs };
 }
 
 export class Captures {
@@ -43,8 +49,9 @@ export class Captures {
   // bytes are in a row.
   constructor(byId, { module, worker, libraries, columns }) {
     Object.assign(this, { byId, module, makeWorker: worker, columns });
-    // |run| is the number of the capture that is read: answers about another one are late.
-    Object.assign(this, { worker: null, file: null, keyLogs: [], summary: null, run: 0 });
+    // |run| is the number of the capture that is read: answers about another one are late. |given| are the files that
+    // it is read from; |isHeld| says whether the worker can't read files, so that the page reads them for it.
+    Object.assign(this, { worker: null, file: null, keyLogs: [], summary: null, run: 0, given: [], isHeld: false });
     const boxes = {
       list: byId("packets"), head: byId("packets-head"), filter: byId("filter"), note: byId("filter-note"),
     };
@@ -103,8 +110,8 @@ export class Captures {
       failed: () => this.failed(message), filtered: () => this.list.filtered(message),
       rows: () => this.list.take(message), position: () => this.list.found(message),
       cards: () => this.cards(message), points: () => this.points(message), detail: () => this.detail(message),
-      saved: () => this.saved(message), unsaved: () => this.unsaved(message.why), cancelled: () => this.cancelled(),
-      streams: () => this.streams.get(message.connection)?.take(message),
+      saved: () => this.saved(message), unsaved: () => this.unsaved(message.why), piece: () => this.piece(message),
+      cancelled: () => this.cancelled(message), streams: () => this.streams.get(message.connection)?.take(message),
     };
     takers[type]();
   }
@@ -115,10 +122,21 @@ export class Captures {
     box.textContent = text;
   }
 
+  get state() {
+    return document.documentElement.dataset.capture;
+  }
+
   set state(state) {
     document.documentElement.dataset.capture = state;
-    this.byId("stop").hidden = state !== "reading" && state !== "saving";
-    this.byId("progress").hidden = this.byId("stop").hidden;
+    const isBusy = state === "reading" || state === "saving";
+    // Screen readers say what is there at the end.
+    this.byId("capture-status").setAttribute("aria-busy", isBusy);
+    this.showStop(isBusy);
+  }
+
+  showStop(isShown) {
+    this.byId("stop").hidden = !isShown;
+    this.byId("progress").hidden = !isShown;
   }
 
   // ---- files
@@ -142,24 +160,28 @@ export class Captures {
   // Takes files: a capture, and key logs, which stay for the captures after it.
   async take(files) {
     try {
-      const captures = [];
-      for (const file of files) {
-        if (await isCapture(file)) {
-          captures.push(file);
-        } else {
-          this.keyLogs.push({ name: file.name, bytes: await keyLogOf(file) });
-        }
-      }
-      this.choice = captures;
+      const { captures, keyLogs } = await sorted(files);
+      const isAgain = ({ name }) => keyLogs.some((log) => log.name === name);
+      this.keyLogs = [...this.keyLogs.filter((log) => !isAgain(log)), ...keyLogs];
       this.file = captures[0] ?? this.file;
-      this.showFiles(captures);
+      if (captures.length > 0) {
+        this.showFiles(captures);
+      }
       if (this.file) {
-        this.read({ file: this.file });
+        this.read();
       } else {
         this.say(`${this.keysText()}. Add the capture.`);
       }
     } catch (error) {
-      this.failed({ text: error.message });
+      this.rejected(error.message);
+    }
+  }
+
+  // Says why files aren't taken. The capture that is there stays.
+  rejected(text) {
+    this.say(`Not read: ${text}.`, true);
+    if (this.state !== "reading" && this.summary === null) {
+      this.state = "failed";
     }
   }
 
@@ -176,13 +198,13 @@ export class Captures {
       Object.assign(button, { type: "button", textContent: file.name });
       button.addEventListener("click", () => {
         this.file = file;
-        this.read({ file });
+        this.read();
       });
       return button;
     }));
   }
 
-  read({ file, bytes }) {
+  read() {
     if (this.worker === null) {
       this.begin();
     }
@@ -196,7 +218,18 @@ export class Captures {
     this.state = "reading";
     this.byId("progress").value = 0;
     this.say(`Reading ${this.file.name} …`);
-    this.ask("open", { file, bytes, keyLogs: this.keyLogs.map((log) => log.bytes) });
+    this.given = [this.file, ...this.keyLogs];
+    this.ask("open", this.isHeld ? { sizes: this.given.map(({ size }) => size) } : { files: this.given });
+  }
+
+  // Reads a piece of a file for the worker.
+  async piece({ number, file, from, to }) {
+    try {
+      const bytes = await this.given[file].slice(from, to).arrayBuffer();
+      this.worker.postMessage({ type: "piece", number, bytes }, [bytes]);
+    } catch ({ name, message }) {
+      this.ask("piece", { number, why: message, name });
+    }
   }
 
   progress({ read, size, count: packets }) {
@@ -204,6 +237,7 @@ export class Captures {
     const of = `${sizeText(read)} of ${sizeText(size)}`;
     if (packets === undefined) {
       this.say(`Reading again: ${of}`);
+      this.showStop(true);
       return;
     }
     this.say(`${count(packets, "packet")} in ${of}`);
@@ -213,19 +247,22 @@ export class Captures {
     }
   }
 
-  async failed({ text, name }) {
-    if (name === "NotReadableError" && this.file && !this.isHeld) {
+  // |what| is the message after which something failed.
+  failed({ text, name, what = "open" }) {
+    if (what === "open" && name === "NotReadableError" && !this.isHeld) {
       // WebKit lets no worker of a page opened as a file read files.
       this.isHeld = true;
-      this.read({ bytes: await this.file.arrayBuffer() });
-      return;
+      this.read();
+    } else if (what.startsWith("save")) {
+      this.unsaved(text);
+    } else {
+      this.say(`Not read: ${text}.`, true);
+      this.state = what === "open" ? "failed" : this.state;
     }
-    this.say(`Not read: ${text}.`, true);
-    this.state = "failed";
   }
 
-  cancelled() {
-    if (document.documentElement.dataset.capture === "saving") {
+  cancelled({ what }) {
+    if (what.startsWith("save")) {
       this.unsaved("that was stopped");
     }
   }
@@ -239,7 +276,6 @@ export class Captures {
 
   ready({ summary, fault, spent, isStopped }) {
     this.summary = summary;
-    this.isHeld = false;
     this.said = this.wholeText(summary, fault, spent, isStopped);
     this.say(this.said, fault !== "");
     for (const id of ["overview", "found", "table"]) {
@@ -272,7 +308,10 @@ export class Captures {
     this.ask("cards", { from: this.cardsShown, to: this.cardsShown + CARDS });
   }
 
-  cards({ list }) {
+  cards({ from, list }) {
+    if (from !== this.cardsShown) {
+      return;
+    }
     this.cardsShown += list.length;
     addCards(this.byId("connections"), list, {
       filter: (number) => this.list.apply(`c:${number}`),
@@ -308,14 +347,15 @@ export class Captures {
 
   detail({ detail }) {
     this.datagram.show(detail, this.columns());
-    if (this.summary) {
+    this.showStop(this.state === "reading" || this.state === "saving");
+    if (this.state === "ready") {
       this.say(this.said);
     }
   }
 
   // Has the worker make a file of what is asked for, unless it is busy.
   save(type, message = {}) {
-    if (document.documentElement.dataset.capture === "ready") {
+    if (this.state === "ready") {
       this.state = "saving";
       this.ask(type, { name: this.file.name, ...message });
     }

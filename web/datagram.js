@@ -10,8 +10,9 @@ import { element } from "./rows.js";
 import { count } from "./shown.js";
 import { Views } from "./views.js";
 
-// How many frames are shown under a packet in the tree.
+// How many frames are shown under a packet in the tree, and under how many packets before and after the chosen one.
 const MOST_INNER = 60;
+const MOST_BESIDE = 50;
 // How payloads are shown: frames of the ACK frequency extension may have been negotiated. What RFC 9000 rejects is in
 // the text of the packet.
 const PAYLOAD = { mode: "frames", quinn: true, strict: true };
@@ -68,7 +69,8 @@ export class DatagramView {
   showDatagram(bytes, chosen) {
     const idLength = chosen.id_len || Math.max(...this.packets.map(({ id_len: length }) => length));
     this.reading = readBytes(this.library, bytes, { mode: "datagram", idLength, versions: VERSIONS });
-    for (const packet of this.packets) {
+    const place = this.packets.indexOf(chosen);
+    for (const packet of this.packets.slice(Math.max(0, place - MOST_BESIDE), place + MOST_BESIDE)) {
       const at = this.reading.indexAt(packet.packet_in_datagram[0]);
       if (packet.mask && packet.payload !== undefined && at >= 0) {
         this.reading.open(at, fromHex(packet.mask), this.linesOf(packet));

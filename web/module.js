@@ -30,6 +30,11 @@ export class Module {
     return new TextDecoder().decode(this.bytes());
   }
 
+  // How many bytes of memory it has.
+  get size() {
+    return this.calls.memory.buffer.byteLength;
+  }
+
   // Numbers as BigInts.
   numbers() {
     return new BigUint64Array(this.bytes());

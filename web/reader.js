@@ -1,9 +1,27 @@
-// Reads a capture with the module, in pieces: in a worker, or wherever there is time.
+// Reads a capture with the module, in pieces: in a worker, or wherever there is time. What takes long is done in steps,
+// between which messages have their turn.
 
 import { Module } from "./module.js";
 
 const PIECE = 1 << 20;
 const GZIP = [0x1f, 0x8b];
+// How many compressed bytes are inflated at a time: a thousand times as many may come out.
+const PACKED = 1 << 14;
+const NEW_LINE = 10;
+// For how many milliseconds steps are taken until messages have their turn; how many datagrams a step takes, and how
+// many connections one at the end.
+const TURN = 40;
+const [DATAGRAMS, CONNECTIONS] = [32, 256];
+// What a step returns.
+const [FAILED, , MORE] = [0, 1, 2];
+// With how many bytes of memory the module reads no further. It has 1 GB, and needs some to tell what it has read.
+const MOST_MEMORY = 768 << 20;
+const FULL = "what comes after that needs more memory than the page has";
+// How many bytes are made for a file at most: they are in memory until it is saved.
+const MOST_SAVED = 1 << 30;
+const DAMAGED = "the rest of the file, which gzip compressed, can’t be read";
+// The names of errors of a file itself.
+const FILE_ERRORS = ["NotFoundError", "NotReadableError", "SecurityError"];
 // What a capture is read for: its table, the packets of one record, the objects that quic-wire prints, the traces that
 // it writes of all connections, and that of one.
 const [TABLE, RECORD, OBJECTS, TRACES, TRACE] = [0, 1, 2, 3, 4];
@@ -14,28 +32,63 @@ const MOST_FINDINGS = 500;
 // Why reading has ended without a fault: something else is read now.
 export class Cancelled extends Error {}
 
-// Bytes with the calls of a file.
-export class HeldFile {
-  constructor(bytes) {
-    this.bytes = bytes;
-    this.size = bytes.byteLength;
+// Why a file can be read only up to here.
+class Damaged extends Error {}
+
+// When messages have their turn.
+class Turns {
+  begun = performance.now();
+
+  // Whether steps were taken for long enough.
+  get isOver() {
+    return performance.now() - this.begun >= TURN;
   }
 
-  slice(begin, end) {
-    return { arrayBuffer: async () => this.bytes.slice(begin, end) };
-  }
-
-  stream() {
-    return new Blob([this.bytes]).stream();
+  // Lets the messages that have come have their turn, if that is due.
+  async next() {
+    if (!this.isOver) {
+      return;
+    }
+    await new Promise((done) => {
+      const { port1, port2 } = new MessageChannel();
+      port1.onmessage = () => {
+        port1.close();
+        done();
+      };
+      port2.postMessage(null);
+    });
+    this.begun = performance.now();
   }
 }
 
 // The pieces of a file, each with how much of the file was read by then.
 async function* filePieces(file) {
   for (let at = 0; at < file.size; at += PIECE) {
-    const bytes = new Uint8Array(await file.slice(at, at + PIECE).arrayBuffer());
+    const bytes = new Uint8Array(await file.slice(at, Math.min(at + PIECE, file.size)).arrayBuffer());
     yield [bytes, Math.min(at + PIECE, file.size)];
   }
+}
+
+// A stream of the bytes of a file, few at a time. |count| is called with how many.
+function streamOf(file, count) {
+  const pieces = filePieces(file);
+  let rest = new Uint8Array();
+  return new ReadableStream({
+    async pull(to) {
+      if (rest.length === 0) {
+        const { done, value } = await pieces.next();
+        if (done) {
+          to.close();
+          return;
+        }
+        [rest] = value;
+      }
+      const bytes = rest.slice(0, PACKED);
+      rest = rest.subarray(PACKED);
+      count(bytes.length);
+      to.enqueue(bytes);
+    },
+  });
 }
 
 // The pieces of a file that gzip compressed.
@@ -44,19 +97,57 @@ async function* inflatedPieces(file) {
     throw new Error("the file is compressed by gzip, which this browser can’t read");
   }
   let read = 0;
-  const counted = new TransformStream({
-    transform(bytes, to) {
-      read += bytes.length;
-      to.enqueue(bytes);
-    },
+  const packed = streamOf(file, (length) => { read += length; });
+  const reader = packed.pipeThrough(new DecompressionStream("gzip")).getReader();
+  const next = () => reader.read().catch((error) => {
+    throw error instanceof Cancelled || FILE_ERRORS.includes(error.name) ? error : new Damaged(DAMAGED);
   });
-  const reader = file.stream().pipeThrough(counted).pipeThrough(new DecompressionStream("gzip")).getReader();
-  for (let part = await reader.read(); !part.done; part = await reader.read()) {
-    yield [part.value, read];
+  try {
+    for (let part = await next(); !part.done; part = await next()) {
+      yield [part.value, read];
+    }
+  } finally {
+    reader.cancel().catch(() => {});
   }
 }
 
+// The lines of a key log in parts, each of which ends with a line unless one is longer than a piece.
+async function* linesOf(file) {
+  let rest = [];
+  for await (const [bytes] of filePieces(file)) {
+    const end = bytes.lastIndexOf(NEW_LINE) + 1;
+    if (end > 0 || rest.length > 1) {
+      yield joined([...rest, bytes.subarray(0, end)]);
+      rest = [];
+    }
+    rest.push(bytes.subarray(end));
+  }
+  yield joined(rest);
+}
+
+function joined(parts) {
+  const all = new Uint8Array(parts.reduce((sum, part) => sum + part.length, 0));
+  let at = 0;
+  for (const part of parts) {
+    all.set(part, at);
+    at += part.length;
+  }
+  return all;
+}
+
 const isOfKind = (line, kind) => line.startsWith(`{"kind":"${kind}"`);
+
+// Adds up how many bytes are made for a file.
+function savedSize() {
+  let size = 0;
+  return (bytes) => {
+    size += bytes.byteLength;
+    if (size > MOST_SAVED) {
+      throw new Error("it has more than 1 GB; the program quic-wire writes it");
+    }
+    return bytes;
+  };
+}
 
 // Adds pieces of traces to the parts of each connection's.
 function addPieces(traces, buffer) {
@@ -77,7 +168,7 @@ async function piecesOf(file) {
 }
 
 export class Reader {
-  // |compiled| is the module, |file| has the calls of a Blob, |keyLogs| are lists of bytes.
+  // |compiled| is the module; |file| and |keyLogs| have the calls of Blobs.
   constructor(compiled, file, keyLogs) {
     Object.assign(this, { compiled, file, keyLogs });
     this.module = null;
@@ -88,38 +179,73 @@ export class Reader {
   }
 
   // Starts a module of its own, so that what the last one took is free. |number| is a record or a connection; |name| is
-  // what traces call the capture.
-  async begin(purpose, number = 0, name = "") {
+  // what traces call the capture. |after| is called between the parts of key logs, with 0; no further ones are read if
+  // it returns true.
+  async begin(purpose, after, number = 0, name = "") {
     const module = await Module.start(this.compiled);
+    const turns = new Turns();
     module.putText(name);
     module.calls.capture_begin(purpose, number);
-    for (const text of this.keyLogs) {
-      module.put(text);
-      module.calls.capture_add_keylog();
+    for (const log of this.keyLogs) {
+      for await (const lines of linesOf(log)) {
+        module.put(lines);
+        module.calls.capture_add_keylog();
+        if (after(0)) {
+          return module;
+        }
+        await turns.next();
+      }
     }
     return module;
   }
 
-  // Gives the pieces of the file to a module, up to one that can't be read. |after| is called after each piece with how
-  // many bytes of the file were read; reading ends if it returns true. Returns why the file can't be read on.
+  // Gives the pieces of the file to a module, up to one that can't be read. |after| is called every few milliseconds
+  // and after each piece, with how many bytes of the file were read; reading ends if it returns true. Returns why the
+  // file can't be read on.
   async feed(module, after) {
-    for await (const [bytes, read] of await piecesOf(this.file)) {
-      module.put(bytes);
-      if (!module.calls.capture_feed()) {
-        return module.words;
+    const turns = new Turns();
+    let before = 0;
+    try {
+      for await (const [bytes, read] of await piecesOf(this.file)) {
+        module.put(bytes);
+        module.calls.capture_put();
+        let left = MORE;
+        while (left === MORE) {
+          left = module.calls.capture_step(DATAGRAMS);
+          const fault = left === FAILED ? module.words : module.size > MOST_MEMORY ? FULL : "";
+          const isTold = left !== MORE || turns.isOver;
+          if (fault || (isTold && after(left === MORE ? before : read))) {
+            return fault;
+          }
+          await turns.next();
+        }
+        before = read;
       }
-      if (after(read)) {
-        return "";
+    } catch (error) {
+      if (!(error instanceof Damaged)) {
+        throw error;
       }
+      return error.message;
     }
     return "";
   }
 
+  // Ends a capture. |after| is called every few milliseconds, with the size of the file.
+  async finish(module, after) {
+    const turns = new Turns();
+    while (module.calls.capture_finish_some(CONNECTIONS)) {
+      if (turns.isOver) {
+        after(this.file.size);
+        await turns.next();
+      }
+    }
+  }
+
   // Reads the capture for its table.
   async read(after) {
-    this.module = await this.begin(TABLE);
+    this.module = await this.begin(TABLE, after);
     this.fault = await this.feed(this.module, after);
-    this.module.calls.capture_finish();
+    await this.finish(this.module, after);
     // Lines become objects once they are shown, since there may be many.
     const lines = this.lines("capture_lines");
     this.capture = JSON.parse(lines.find((line) => isOfKind(line, "capture")));
@@ -144,7 +270,7 @@ export class Reader {
   }
 
   get count() {
-    return this.module.calls.capture_count();
+    return this.module?.calls.capture_count() ?? 0;
   }
 
   get shown() {
@@ -208,7 +334,7 @@ export class Reader {
     if ("datagram" in detail) {
       return detail;
     }
-    const module = await this.begin(RECORD, detail.record);
+    const module = await this.begin(RECORD, after, detail.record);
     await this.feed(module, (read) => after(read) || module.calls.capture_count() > index);
     if (module.calls.capture_detail(index) === 0) {
       return detail;
@@ -222,35 +348,32 @@ export class Reader {
 
   // What quic-wire capture --json prints, as bytes in parts.
   async objects(after = () => false) {
-    const module = await this.begin(OBJECTS);
-    const parts = [];
-    const take = () => {
+    const module = await this.begin(OBJECTS, after);
+    const [parts, counted] = [[], savedSize()];
+    const take = (read) => {
       module.calls.capture_lines();
-      parts.push(module.bytes());
-    };
-    await this.feed(module, (read) => {
-      take();
+      parts.push(counted(module.bytes()));
       return after(read);
-    });
-    module.calls.capture_finish();
-    take();
+    };
+    await this.feed(module, take);
+    await this.finish(module, take);
+    take(this.file.size);
     return parts;
   }
 
   // The traces that quic-wire capture --qlog writes, of all connections or of one: for each its parts, in bytes.
   async traces(name, connection = null, after = () => false) {
-    const module = await (connection === null ? this.begin(TRACES, 0, name) : this.begin(TRACE, connection, name));
-    const traces = new Map();
-    const take = () => {
+    const module = await (
+      connection === null ? this.begin(TRACES, after, 0, name) : this.begin(TRACE, after, connection, name));
+    const [traces, counted] = [new Map(), savedSize()];
+    const take = (read) => {
       module.calls.capture_traces();
-      addPieces(traces, module.bytes());
-    };
-    await this.feed(module, (read) => {
-      take();
+      addPieces(traces, counted(module.bytes()));
       return after(read);
-    });
-    module.calls.capture_finish();
-    take();
+    };
+    await this.feed(module, take);
+    await this.finish(module, take);
+    take(this.file.size);
     return traces;
   }
 

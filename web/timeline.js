@@ -107,21 +107,37 @@ export class Timeline {
     }
   }
 
-  // The packets, of which those that counted as lost come last.
+  // The packets, of which those that counted as lost come last. Sides differ in shape too: the server's are hollow.
   dots(context, areLost) {
-    const { points, colors } = this;
+    const { colors } = this;
+    const size = areLost ? DOT.lost : DOT.usual;
+    Object.assign(context, { fillStyle: areLost ? colors.lost : colors.client, strokeStyle: colors.server });
+    for (const [x, y, isServer] of this.spots(areLost)) {
+      if (isServer && !areLost) {
+        context.strokeRect(x - size / 2, y - size / 2, size, size);
+      } else {
+        context.fillRect(x - size / 2, y - size / 2, size, size);
+      }
+    }
+  }
+
+  // Where packets are drawn, and whether the server sent them: at each half of a pixel one of each side.
+  * spots(areLost) {
+    const { points, view: [begin, end, least, most] } = this;
+    const { clientWidth: width, clientHeight: height } = this.canvas;
+    const across = 2 * (width + 1);
+    const drawn = new Uint8Array(across * 2 * (height + 1));
     for (let at = 0; at < points.length; at += POINT) {
-      const isLost = LOST.includes(points[at + 3]);
-      if (isLost === areLost) {
-        const [x, y] = this.place(points[at], points[at + 1]);
-        const size = isLost ? DOT.lost : DOT.usual;
-        context.fillStyle = isLost ? colors.lost : points[at + 2] === 0 ? colors.client : colors.server;
-        // Sides differ in shape too: the server's are hollow.
-        if (points[at + 2] === 0 || isLost) {
-          context.fillRect(x - size / 2, y - size / 2, size, size);
-        } else {
-          context.strokeStyle = context.fillStyle;
-          context.strokeRect(x - size / 2, y - size / 2, size, size);
+      const time = points[at];
+      const number = points[at + 1];
+      const isSeen = time >= begin && time <= end && number >= least && number <= most;
+      if (isSeen && LOST.includes(points[at + 3]) === areLost) {
+        const [x, y] = this.place(time, number);
+        const spot = across * Math.round(2 * y) + Math.round(2 * x);
+        const bit = 1 << points[at + 2];
+        if ((drawn[spot] & bit) === 0) {
+          drawn[spot] |= bit;
+          yield [x, y, points[at + 2] === 1];
         }
       }
     }

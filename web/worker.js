@@ -1,6 +1,6 @@
 // The page's worker: reads captures, and answers what the page asks about them. It is a program of its own.
 
-import { Cancelled, HeldFile, Reader } from "./reader.js";
+import { Cancelled, Reader } from "./reader.js";
 import { tarParts } from "./tar.js";
 
 // How often progress is reported, in milliseconds.
@@ -10,13 +10,28 @@ const TRACE_TYPE = "application/qlog+json-seq";
 const ARCHIVE_TYPE = "application/x-tar";
 const STOPPED = "the module has stopped; if the capture is large, it may need more memory than the module has, 1 GB";
 
+// A file that the page reads for the worker, piece by piece, with the calls of a Blob. |ask| returns what comes.
+class PageFile {
+  constructor(size, ask) {
+    Object.assign(this, { size, ask });
+  }
+
+  slice(from, to) {
+    return { arrayBuffer: () => this.ask(from, Math.min(to, this.size)) };
+  }
+}
+
 class Session {
   constructor() {
     this.reader = null;
     // The number that the page gave the capture that is read. What is under way for another one ends.
     this.run = 0;
-    // Whether what is under way ends early.
-    this.isStopped = false;
+    // How often what is under way was stopped; how many packets were asked for, of which the last one is read.
+    this.stops = 0;
+    this.details = 0;
+    // The pieces of files that the page reads, by their numbers.
+    this.pieces = new Map();
+    this.asked = 0;
   }
 
   tell(type, run, message = {}) {
@@ -26,7 +41,7 @@ class Session {
   // Something to call with how many bytes of a file were read. It reports that, and returns whether to stop.
   progress(file, run, more = () => ({})) {
     let told = 0;
-    this.isStopped = false;
+    const { stops } = this;
     return (read) => {
       if (this.run !== run) {
         throw new Cancelled();
@@ -36,7 +51,7 @@ class Session {
         told = now;
         this.tell("progress", run, { read, size: file.size, ...more() });
       }
-      return this.isStopped;
+      return this.stops !== stops;
     };
   }
 
@@ -45,18 +60,47 @@ class Session {
   }
 
   stop() {
-    this.isStopped = true;
+    this.stops += 1;
   }
 
-  async open({ file, bytes, keyLogs }, run) {
-    const source = bytes ? new HeldFile(bytes) : file;
+  // A piece of a file, or why the page can't read it.
+  piece({ number, bytes, why, name }) {
+    const { give, reject } = this.pieces.get(number) ?? {};
+    this.pieces.delete(number);
+    if (bytes) {
+      give?.(bytes);
+    } else {
+      reject?.(Object.assign(new Error(why), { name }));
+    }
+  }
+
+  // The files that the page reads, if it sent only their sizes.
+  filesOf(sizes, run) {
+    this.pieces.forEach(({ reject }) => reject(new Cancelled()));
+    this.pieces.clear();
+    const ask = (file, from, to) => new Promise((give, reject) => {
+      this.asked += 1;
+      this.pieces.set(this.asked, { give, reject });
+      this.tell("piece", run, { number: this.asked, file, from, to });
+    });
+    return sizes.map((size, file) => new PageFile(size, (from, to) => ask(file, from, to)));
+  }
+
+  // The first file is the capture, the others are key logs.
+  async open({ files, sizes = [] }, run) {
+    const own = this.filesOf(sizes, run);
+    const [file, ...keyLogs] = files ?? own;
     const began = performance.now();
-    const reader = new Reader(await this.compiled, source, keyLogs);
+    const { stops } = this;
+    const reader = new Reader(await this.compiled, file, keyLogs);
+    if (this.run !== run) {
+      throw new Cancelled();
+    }
     this.reader = reader;
-    await reader.read(this.progress(source, run, () => ({ count: reader.count })));
+    await reader.read(this.progress(file, run, () => ({ count: reader.count })));
     const { fault } = reader;
     const spent = performance.now() - began;
-    this.tell("ready", run, { summary: reader.summary(), fault, spent, isStopped: this.isStopped });
+    this.tell("ready", run, { summary: reader.summary(), fault, spent, isStopped: this.stops !== stops });
   }
 
   filter({ text }, run) {
@@ -85,7 +129,14 @@ class Session {
   }
 
   async detail({ index }, run) {
-    const detail = await this.reader.detail(index, this.progress(this.reader.file, run));
+    this.details += 1;
+    const [progress, number] = [this.progress(this.reader.file, run), this.details];
+    const detail = await this.reader.detail(index, (read) => {
+      if (this.details !== number) {
+        throw new Cancelled();
+      }
+      return progress(read);
+    });
     this.tell("detail", run, { detail });
   }
 
@@ -125,18 +176,18 @@ class Session {
   async take({ type, run, ...message }) {
     if (type === "open") {
       this.run = run;
-    } else if (!["start", "stop"].includes(type) && (run !== this.run || !this.reader?.module)) {
+    } else if (!["start", "stop", "piece"].includes(type) && (run !== this.run || !this.reader?.module)) {
       return;
     }
     try {
       await this[type](message, run);
     } catch (error) {
       if (error instanceof Cancelled) {
-        this.tell("cancelled", run);
+        this.tell("cancelled", run, { what: type });
         return;
       }
       const isStopped = error instanceof WebAssembly.RuntimeError;
-      this.tell("failed", run, { text: isStopped ? STOPPED : error.message, name: error.name });
+      this.tell("failed", run, { text: isStopped ? STOPPED : error.message, name: error.name, what: type });
     }
   }
 }

@@ -16,7 +16,7 @@ for (const name of ["reader.js", "module.js", "tar.js"]) {
   fs.cpSync(path.join(top, "web", name), path.join(room, name));
 }
 fs.writeFileSync(path.join(room, "package.json"), '{"type":"module"}');
-const { HeldFile, Reader } = await import(pathToFileURL(path.join(room, "reader.js")));
+const { Reader } = await import(pathToFileURL(path.join(room, "reader.js")));
 const { tarParts } = await import(pathToFileURL(path.join(room, "tar.js")));
 fs.rmSync(room, { recursive: true });
 const compiled = await WebAssembly.compile(fs.readFileSync(module));
@@ -44,11 +44,9 @@ function printed(mode, file, keys, ...others) {
   }
 }
 
-const readerOf = (file, keys) => {
-  const bytes = fs.readFileSync(file);
-  const held = bytes.buffer.slice(bytes.byteOffset, bytes.byteOffset + bytes.length);
-  return new Reader(compiled, new HeldFile(held), keys ? [fs.readFileSync(keys)] : []);
-};
+const blobOf = (file) => new Blob([fs.readFileSync(file)]);
+
+const readerOf = (file, keys) => new Reader(compiled, blobOf(file), keys ? [blobOf(keys)] : []);
 
 // Compares a capture with what the program prints of it. Returns how many packets it has.
 async function compare(file) {
@@ -146,7 +144,7 @@ async function rejects() {
     [[], ""], [[1, 2, 3, 4, 5], "the file is neither pcap nor pcapng"],
     [[0x0a, 0x0d, 0x0d, 0x0a, 8, 0, 0, 0, 0x4d, 0x3c, 0x2b, 0x1a], "a block of 8 bytes can't be read"],
   ]) {
-    const reader = new Reader(compiled, new HeldFile(new Uint8Array(bytes).buffer), []);
+    const reader = new Reader(compiled, new Blob([new Uint8Array(bytes)]), []);
     await reader.read(() => false);
     same(reader.fault, why, `a file of ${bytes.length} bytes`);
     same(`${reader.count}`, "0", "its rows");

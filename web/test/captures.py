@@ -242,6 +242,34 @@ def walk(browser, packets):
     browser.keys(END)
 
 
+def paged(browser, address, top):
+    """The last of many rows is chosen by a key before it has come, and shown; names of files are texts, whatever is in
+    them. Returns how many rows there are."""
+    header, times = 24, 40
+    with open(f"{top}/rust/capture/tests/data/small.pcap", "rb") as file:
+        whole = file.read()
+    with tempfile.TemporaryDirectory() as folder:
+        path = f"{folder}/<b id=bold>&lt;<b>.pcap"
+        with open(path, "wb") as file:
+            file.write(whole[:header] + whole[header:] * times)
+        browser.send("navigate", {"url": "about:blank"})
+        browser.go(f"{address}#captures")
+        choose(browser, [path, f"{top}/rust/capture/tests/data/small.keys"])
+    if "<b id=bold>&lt;<b>.pcap, with small.keys" not in browser.run(STATUS):
+        raise Failed(f"the name of a file: {browser.run(STATUS)}")
+    same(browser.run("return document.getElementById('bold')"), None, "an element that the name of a file makes")
+    browser.until("return document.getElementById('filter-note').textContent.includes('shown')", "all rows")
+    browser.until("return document.querySelectorAll('#packets [data-index]').length > 0", "rows")
+    count = int(browser.run("return document.querySelector('#packets .packet-row').getAttribute('aria-setsize')"))
+    browser.run("document.getElementById('packets').focus()")
+    browser.keys(END)
+    chosen = browser.until("return document.querySelector('#packets [aria-selected=true] .record')?.textContent",
+                           "the last row")
+    browser.until("return document.getElementById('packet-title').textContent.startsWith(arguments[0])",
+                  f"the packet of record {chosen}", f"Record {chosen}: ")
+    return count
+
+
 def rejected(browser, address, top):
     """Files that are neither: words, and what was there stays."""
     browser.send("navigate", {"url": "about:blank"})

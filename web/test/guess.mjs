@@ -23,7 +23,7 @@ const { readEntries } = await part("entries.js");
 const { CAPTURE, captureFormat, guessOf } = await part("guess.js");
 const { Library } = await part("library.js");
 const { DEFAULT_STATE, fragmentOf, stateOf } = await part("link.js");
-const { HeldFile, Reader } = await part("reader.js");
+const { Reader } = await part("reader.js");
 fs.rmSync(room, { recursive: true });
 const compiled = await WebAssembly.compile(fs.readFileSync(module));
 const [library] = await Library.load(fs.readFileSync(module), 1);
@@ -61,10 +61,9 @@ for (const [form, mode] of LISTS) {
 
 // What is in a capture: each datagram once, the payloads that were opened, and the lists in them.
 async function ofCapture(file) {
-  const bytes = fs.readFileSync(file);
-  const held = bytes.buffer.slice(bytes.byteOffset, bytes.byteOffset + bytes.length);
   const keys = file.replace(/\.pcap(ng)?$/, ".keys");
-  const reader = new Reader(compiled, new HeldFile(held), fs.existsSync(keys) ? [fs.readFileSync(keys)] : []);
+  const [capture, ...logs] = [file, keys].filter(fs.existsSync).map((one) => new Blob([fs.readFileSync(one)]));
+  const reader = new Reader(compiled, capture, logs);
   await reader.read(() => false);
   let record = -1;
   for (let index = 0; index < reader.count; index += 1) {

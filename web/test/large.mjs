@@ -1,6 +1,7 @@
 // How long the page's reader takes for a large capture, in node: until the first rows, until all is read, for what the
-// page asks then, and for saving; the longest step, in which a worker answers nothing; and memory. As dumps.mjs it uses
-// a copy of web/'s modules. The example `generate` of rust/capture makes large captures.
+// page asks then, and for saving; the longest step, in which a worker answers nothing; and memory. Fails if a step of
+// reading or saving takes more than 200 ms. As dumps.mjs it uses a copy of web/'s modules. The example `generate` of
+// rust/capture makes large captures.
 //
 // node web/test/large.mjs TOP MODULE FILE [KEYS]
 import fs from "node:fs";
@@ -9,6 +10,8 @@ import path from "node:path";
 import { monitorEventLoopDelay } from "node:perf_hooks";
 import { pathToFileURL } from "node:url";
 
+// In milliseconds.
+const LONGEST = 200;
 const [top, module, name, keys] = process.argv.slice(2);
 const room = fs.mkdtempSync(path.join(os.tmpdir(), "page-"));
 for (const file of ["reader.js", "module.js"]) {
@@ -31,8 +34,6 @@ class DiskFile {
   slice(begin, end) {
     return {
       arrayBuffer: async () => {
-        // A worker's other messages have their turn between two pieces.
-        await new Promise((done) => setImmediate(done));
         const bytes = new Uint8Array(Math.max(0, Math.min(end, this.size) - begin));
         fs.readSync(this.handle, bytes, 0, bytes.length, begin);
         return bytes.buffer;
@@ -41,8 +42,9 @@ class DiskFile {
   }
 }
 
-// How many milliseconds something takes, and the longest step of it.
-async function timed(what, act) {
+// How many milliseconds something takes, and the longest step of it, which may have so many.
+let isLong = false;
+async function timed(what, act, most = Infinity) {
   const delays = monitorEventLoopDelay({ resolution: 1 });
   delays.enable();
   const [began, spent] = [performance.now(), process.cpuUsage()];
@@ -54,12 +56,13 @@ async function timed(what, act) {
   delays.disable();
   const processor = `${((user + system) / 1000).toFixed(0)} ms of the processor`;
   say(what, `${took.toFixed(0)} ms, ${processor}; the longest step has ${(delays.max / 1e6).toFixed(0)} ms`);
+  isLong ||= delays.max / 1e6 > most;
   return result;
 }
 
 const compiled = await WebAssembly.compile(fs.readFileSync(module));
 const file = new DiskFile(name);
-const reader = new Reader(compiled, file, keys ? [fs.readFileSync(keys)] : []);
+const reader = new Reader(compiled, file, keys ? [new DiskFile(keys)] : []);
 say("capture", `${path.basename(name)}, ${megabytes(file.size)}`);
 const began = performance.now();
 let first = 0;
@@ -69,7 +72,7 @@ await timed("all of it", () => reader.read(() => {
     first = performance.now() - began;
   }
   return false;
-}));
+}), LONGEST);
 say("the first rows after", `${first.toFixed(0)} ms`);
 const summary = reader.summary();
 say("packets, connections", `${summary.packets} and ${summary.further_packets} more, ${summary.connections} and `
@@ -83,12 +86,16 @@ await timed("the points of a connection", async () => reader.points(0));
 await timed("a filter", async () => reader.filter("lost"));
 await timed("another one", async () => reader.filter("stream -ack"));
 await timed("50 rows in the middle", async () => reader.rows(reader.shown >> 1, (reader.shown >> 1) + 50));
-await timed("the last packet", () => reader.detail(reader.count - 1));
+await timed("the last packet", () => reader.detail(reader.count - 1), LONGEST);
 const { memory } = reader.module.calls;
 say("memory of the module", megabytes(memory.buffer.byteLength));
-const parts = await timed("saved as JSON", () => reader.objects());
+const parts = await timed("saved as JSON", () => reader.objects(), LONGEST);
 say("JSON", megabytes(parts.reduce((sum, part) => sum + part.byteLength, 0)));
-const traces = await timed("saved as qlog", () => reader.traces(path.basename(name)));
+const traces = await timed("saved as qlog", () => reader.traces(path.basename(name)), LONGEST);
 const sizes = [...traces.values()].flat().map((part) => part.byteLength);
 say("qlog", `${megabytes(sizes.reduce((sum, size) => sum + size, 0))}, ${traces.size} traces`);
 say("memory of node", megabytes(process.resourceUsage().maxRSS * 1024));
+if (isLong) {
+  console.error(`large.mjs: a step took more than ${LONGEST} ms`);
+  process.exitCode = 1;
+}

@@ -33,7 +33,7 @@ const { initialPayloads, openInitial } = await part("initial.js");
 const { Library } = await part("library.js");
 const { DEFAULT_STATE } = await part("link.js");
 const { RFC_9001 } = await part("packets.js");
-const { HeldFile, Reader } = await part("reader.js");
+const { Reader } = await part("reader.js");
 const { readBytes } = await part("reading.js");
 fs.rmSync(room, { recursive: true });
 const compiled = await WebAssembly.compile(fs.readFileSync(module));
@@ -86,10 +86,9 @@ async function ofTheRfc() {
 
 // Each side's list in a capture has the parameters that are printed, in their order.
 async function ofCapture(name) {
-  const bytes = fs.readFileSync(path.join(folder, name));
-  const held = bytes.buffer.slice(bytes.byteOffset, bytes.byteOffset + bytes.length);
-  const keys = path.join(folder, name.replace(/\.pcap(ng)?$/, ".keys"));
-  const reader = new Reader(compiled, new HeldFile(held), fs.existsSync(keys) ? [fs.readFileSync(keys)] : []);
+  const files = [name, name.replace(/\.pcap(ng)?$/, ".keys")].map((one) => path.join(folder, one));
+  const [capture, ...logs] = files.filter(fs.existsSync).map((one) => new Blob([fs.readFileSync(one)]));
+  const reader = new Reader(compiled, capture, logs);
   await reader.read(() => false);
   const payloads = new Map();
   for (let index = 0; index < reader.count; index += 1) {

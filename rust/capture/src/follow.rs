@@ -83,6 +83,11 @@ impl Follower {
         self.connections.values().map(Box::as_ref)
     }
 
+    /// The same from a number on.
+    pub fn connections_from(&self, number: usize) -> impl Iterator<Item = &Connection> {
+        self.connections.range(number..).map(|(_, connection)| connection.as_ref())
+    }
+
     /// What was counted.
     pub fn counts(&self) -> &Counts {
         &self.counts
@@ -156,7 +161,7 @@ impl Follower {
     fn opens(&mut self, datagram: &Datagram<'_>, owners: &[Owner], id_len: usize) -> bool {
         let Follower { connections, keylog, buffer, .. } = self;
         owners.iter().any(|(number, sender)| {
-            let offloaded = Offloaded { bytes: datagram.bytes, begin: 0, id_len, sender: *sender };
+            let offloaded = Offloaded { bytes: datagram.bytes, begin: 0, id_len, sender: *sender, is_guess: false };
             let connection = connections.get_mut(number);
             connection.is_some_and(|one| one.segment_len(offloaded, keylog, buffer).is_some())
         })
@@ -174,7 +179,7 @@ impl Follower {
         let begin = short.place().range().start;
         let Follower { connections, keylog, buffer, .. } = self;
         let size = owners.iter().find_map(|(number, sender)| {
-            let offloaded = Offloaded { bytes, begin, id_len, sender: *sender };
+            let offloaded = Offloaded { bytes, begin, id_len, sender: *sender, is_guess: false };
             connections.get_mut(number)?.segment_len(offloaded, keylog, buffer)
         })?;
         self.count_segments(bytes.len(), size);

@@ -17,6 +17,11 @@ const LONGEST_SEGMENT: usize = 9216;
 const LEAST_SEGMENT: usize = 600;
 const MOST_SIZES: usize = 128;
 
+// After how many datagrams of a side that open with no size most others are tried only with that of the last segments
+// and whole: anyone can send them.
+const MOST_IN_VAIN: u32 = 16;
+const FEW_SIZES: usize = 2;
+
 /// How headers are read: the fixed bit may be clear (RFC 9287).
 pub(crate) const CHECKS: HeaderChecks = HeaderChecks { grease_quic_bit: true, any_version: true, whole_retry: false };
 
@@ -54,13 +59,15 @@ impl<'a> Candidate<'a> {
     }
 }
 
-/// A datagram that may be several: where its first short packet begins, and how many bytes that packet's id has.
+/// A datagram that may be several: where its first short packet begins, and how many bytes that packet's id has; and
+/// whether that is only guessed.
 #[derive(Clone, Copy)]
 pub(crate) struct Offloaded<'a> {
     pub(crate) bytes: &'a [u8],
     pub(crate) begin: usize,
     pub(crate) id_len: usize,
     pub(crate) sender: Side,
+    pub(crate) is_guess: bool,
 }
 
 impl<'a> Offloaded<'a> {
@@ -98,8 +105,9 @@ pub(crate) struct Keyring {
     early: Option<Box<PacketKeys>>,
     handshake: [Option<Box<PacketKeys>>; 2],
     phases: [Option<Box<Phase>>; 2],
-    /// The size of the last segments of each side.
+    /// The size of the last segments of each side, and how many datagrams since them opened with no size.
     segments: [usize; 2],
+    in_vain: [u32; 2],
 }
 
 impl Keyring {
@@ -112,6 +120,7 @@ impl Keyring {
             handshake: [None, None],
             phases: [None, None],
             segments: [0; 2],
+            in_vain: [0; 2],
         }
     }
 
@@ -215,10 +224,13 @@ impl Keyring {
         known: &Known<'_>,
         buffer: &mut Vec<u8>,
     ) -> Option<usize> {
-        let Offloaded { bytes, begin, id_len, sender } = datagram;
-        let last = self.segments[sender as usize];
+        let Offloaded { bytes, begin, id_len, sender, is_guess } = datagram;
+        let (last, in_vain) = (self.segments[sender as usize], self.in_vain[sender as usize]);
+        let are_all = is_guess || in_vain < MOST_IN_VAIN || in_vain.is_power_of_two();
+        let (most, mut is_tried) = (if are_all { usize::MAX } else { FEW_SIZES }, false);
         let mut size_by = |phase: &mut Phase| {
-            datagram.sizes(last).find(|size| {
+            is_tried = true;
+            datagram.sizes(last).take(most).find(|size| {
                 let segment = Packets::with_checks(&bytes[begin..*size], id_len, &VERSIONS, CHECKS).next();
                 let Some(Ok(packet)) = segment else { return false };
                 phase.open(Candidate { packet, sender, expected }, buffer).is_some()
@@ -226,18 +238,25 @@ impl Keyring {
         };
         let slot = &mut self.phases[sender as usize];
         let size = match slot {
-            Some(phase) => size_by(phase)?,
+            Some(phase) => size_by(phase),
             None => {
                 let mut phases = first_phases(known, sender);
-                let (size, phase) = phases.find_map(|mut phase| Some((size_by(&mut phase)?, phase)))?;
-                *slot = Some(Box::new(phase));
-                size
+                let found = phases.find_map(|mut phase| Some((size_by(&mut phase)?, phase)));
+                found.map(|(size, phase)| {
+                    *slot = Some(Box::new(phase));
+                    size
+                })
             }
         };
-        if size < bytes.len() {
+        self.in_vain[sender as usize] = match size {
+            Some(_) => 0,
+            None if is_tried && !is_guess => in_vain.saturating_add(1),
+            None => in_vain,
+        };
+        if let Some(size) = size.filter(|size| *size < bytes.len()) {
             self.segments[sender as usize] = size;
         }
-        Some(size)
+        size
     }
 }
 

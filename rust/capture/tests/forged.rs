@@ -10,7 +10,9 @@ use made::{Client, Initial, Made, Server, Short, begun, crypto, eventful};
 use quic_wire::datagram::Header;
 use quic_wire::packet::VERSION_2;
 use quic_wire_capture::ciphers::Suite;
+use quic_wire_capture::follow::Follower;
 use quic_wire_capture::keys::retry_tag;
+use std::time::Instant;
 
 const FORGED: u64 = 1000;
 
@@ -186,6 +188,36 @@ fn offloaded() {
         bytes.resize_with(4000, || random.byte());
         Some(Kept { bytes, ..kept.clone() })
     });
+}
+
+// Long datagrams to a client whose ids have no bytes might be cut anywhere. After some in vain only few sizes are tried,
+// among them that of datagrams which were cut before.
+#[test]
+fn offloaded_without_ids() {
+    let mut made = Made { ids: [vec![], vec![5; 8]], ..Made::new(1) };
+    let mut follower = Follower::default();
+    follower.keylog.add(made.key_log().as_bytes());
+    let overhead = made.clone().packet(Server, Short, &[0; 100]).len() - 100;
+    let segments = |made: &mut Made| {
+        let packets = (0..3).flat_map(|_| made.packet(Server, Short, &vec![0; 1200 - overhead])).collect();
+        made.datagram(Server, packets)
+    };
+    let mut all = made.handshake();
+    all.push(segments(&mut made));
+    all.iter().for_each(|kept| follower.take(&kept.datagram(), &mut ()));
+    let mut random = Random(3);
+    let forged: Vec<_> = (0..300)
+        .map(|_| made.datagram(Server, (0..1501).map(|at| if at == 0 { 0x40 } else { random.byte() }).collect()))
+        .collect();
+    let mut take_all = |forged: &[Kept]| {
+        let begun = Instant::now();
+        forged.iter().for_each(|kept| follower.take(&kept.datagram(), &mut ()));
+        begun.elapsed()
+    };
+    let (first, later) = (take_all(&forged[..16]), take_all(&forged[16..]));
+    assert!(later < 4 * first, "16 took {first:?}, {} more {later:?}", forged.len() - 16);
+    follower.take(&segments(&mut made).datagram(), &mut ());
+    assert_eq!((follower.counts().offloaded, follower.counts().segments), (2, 6));
 }
 
 #[test]

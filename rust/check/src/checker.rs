@@ -205,8 +205,9 @@ impl Checker {
         self.groups.take()
     }
 
-    // Decides what waits for a connection's end.
-    fn decide(&mut self, connection: &Connection) {
+    /// Decides what waits for the end of a connection, of which nothing comes any more. [`Checker::finish`] does so for
+    /// all that are left.
+    pub fn decide(&mut self, connection: &Connection) {
         let Some(mut history) = self.histories.remove(connection.number()) else { return };
         self.groups.count(self.vantage.unwrap_or_else(|| history.vantage()));
         if history.is_full {

@@ -108,6 +108,8 @@ pub struct Engine {
     filter: Filter,
     /// The rows that the filter lets through, unless it is empty.
     shown: Vec<u32>,
+    /// The number of the first connection that isn't summed up yet.
+    finished: usize,
     is_finished: bool,
 }
 
@@ -198,6 +200,7 @@ impl Engine {
             found: Found::default(),
             filter: Filter::default(),
             shown: Vec::new(),
+            finished: 0,
             is_finished: false,
         }
     }
@@ -213,11 +216,26 @@ impl Engine {
     ///
     /// If the file can't be read on: why, in words.
     pub fn feed(&mut self, piece: &[u8]) -> Result<(), String> {
+        self.put(piece);
+        while self.step(usize::MAX)? {}
+        Ok(())
+    }
+
+    /// Takes the next bytes of the file. [`Engine::step`] takes the datagrams that are whole with them.
+    pub fn put(&mut self, piece: &[u8]) {
+        self.capture.feed(piece);
+    }
+
+    /// Takes so many of the datagrams that are whole, or all if there are fewer. Returns whether there may be more.
+    ///
+    /// # Errors
+    ///
+    /// As [`Engine::feed`].
+    pub fn step(&mut self, most: usize) -> Result<bool, String> {
         let Engine { capture, follower, report, checker, streams, table, .. } = self;
-        capture.feed(piece);
-        loop {
+        for _ in 0..most {
             match capture.next() {
-                Ok(None) => return Ok(()),
+                Ok(None) => return Ok(false),
                 Ok(Some(Item::Secrets(text))) => follower.keylog.add(text),
                 Ok(Some(Item::Datagram(datagram))) => {
                     report.begin_at(datagram.time);
@@ -227,15 +245,39 @@ impl Engine {
                 Err(error) => return Err(error_text(&InputError::File(error), capture.records())),
             }
         }
+        Ok(true)
     }
 
     /// Ends the capture: sums up the connections, and decides what waited for their ends. Nothing comes after it.
     pub fn finish(&mut self) {
-        if std::mem::replace(&mut self.is_finished, true) {
-            return;
+        while self.finish_some(usize::MAX) {}
+    }
+
+    /// Does so for so many connections, or for all that are left. Returns whether there may be more: otherwise the
+    /// capture has ended.
+    pub fn finish_some(&mut self, most: usize) -> bool {
+        if self.is_finished {
+            return false;
         }
-        let Engine { capture, follower, report, checker, streams, table, .. } = self;
+        let Engine { follower, report, checker, streams, table, finished, .. } = self;
+        // Packets wait only the first time.
         follower.finish(&mut All { report, checker, streams, table });
+        for connection in follower.connections_from(*finished).take(most) {
+            report.sum_up(connection);
+            checker.decide(connection);
+            *finished = connection.number() + 1;
+        }
+        let has_more = follower.connections_from(*finished).next().is_some();
+        if !has_more {
+            self.finish_all();
+        }
+        has_more
+    }
+
+    // Ends the capture, whose connections are summed up.
+    fn finish_all(&mut self) {
+        self.is_finished = true;
+        let Engine { capture, follower, report, checker, table, .. } = self;
         report.end(follower, capture);
         let checked = std::mem::take(checker).finish(follower);
         let text = Rc::new(Text::default());

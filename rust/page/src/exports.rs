@@ -119,10 +119,35 @@ pub extern "C" fn capture_feed() -> u32 {
     })
 }
 
+/// Takes the input as the next bytes of the file, whose datagrams [`capture_step`] takes.
+#[unsafe(no_mangle)]
+pub extern "C" fn capture_put() {
+    with_engine(|engine, input, _, _| engine.put(input));
+}
+
+/// Takes so many of the datagrams that are whole, or all if there are fewer. Returns 2 if there may be more, 1 if there
+/// are none, or 0 and words if the file can't be read on.
+#[unsafe(no_mangle)]
+pub extern "C" fn capture_step(most: u32) -> u32 {
+    with_engine(|engine, _, _, words| match engine.step(most as usize) {
+        Ok(has_more) => 1 + u32::from(has_more),
+        Err(what) => {
+            *words = what;
+            0
+        }
+    })
+}
+
 /// Ends the capture.
 #[unsafe(no_mangle)]
 pub extern "C" fn capture_finish() {
     with_engine(|engine, _, _, _| engine.finish());
+}
+
+/// Ends the capture for so many connections. Returns 1 if there are more, or 0: then the capture has ended.
+#[unsafe(no_mangle)]
+pub extern "C" fn capture_finish_some(most: u32) -> u32 {
+    with_engine(|engine, _, _, _| engine.finish_some(most as usize).into())
 }
 
 /// How many packets have a row.

@@ -5,6 +5,9 @@ use quic_wire::Side;
 use std::fmt::Write;
 use std::ops::RangeInclusive;
 
+/// How many words a filter has at most: each of them may be looked for in every packet.
+const MOST_WORDS: usize = 64;
+
 /// One word of a filter.
 #[derive(Clone, Debug, PartialEq)]
 enum What {
@@ -31,9 +34,13 @@ impl Filter {
     ///
     /// # Errors
     ///
-    /// If a word's number can't be read: what is wrong, in words.
+    /// If a word's number can't be read, or there are too many words: what is wrong, in words.
     pub fn parse(text: &str) -> Result<Filter, String> {
-        let words = words(&text.to_lowercase()).into_iter().map(|(word, is_quoted)| {
+        let all = words(&text.to_lowercase());
+        if all.len() > MOST_WORDS {
+            return Err(format!("{} words, and a filter has at most {MOST_WORDS}", all.len()));
+        }
+        let words = all.into_iter().map(|(word, is_quoted)| {
             let (is_wanted, word) = match word.strip_prefix('-') {
                 Some(rest) if !rest.is_empty() && !is_quoted => (false, rest),
                 _ => (true, &word[..]),
@@ -127,7 +134,9 @@ fn has(what: &What, table: &Table, row: &Row, is_broken: bool) -> bool {
 // Whether a text has another one, which is in lower case.
 fn contains(text: &str, wanted: &str) -> bool {
     let (text, wanted) = (text.as_bytes(), wanted.as_bytes());
-    text.windows(wanted.len().max(1)).any(|part| part.eq_ignore_ascii_case(wanted))
+    let Some(first) = wanted.first() else { return false };
+    let is_there = |part: &[u8]| part[0].to_ascii_lowercase() == *first && part.eq_ignore_ascii_case(wanted);
+    text.windows(wanted.len()).any(is_there)
 }
 
 fn explained(what: &What) -> String {

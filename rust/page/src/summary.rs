@@ -2,7 +2,7 @@
 
 use quic_wire::frame::{Ack, Frame};
 use quic_wire_cli::objects::{Part, Value, frame_of, words};
-use std::fmt::Write;
+use std::fmt::{self, Write};
 
 // How many ranges of an ACK, how many bytes of a reason, and how many bytes of all frames are said.
 const MOST_RANGES: usize = 4;
@@ -13,63 +13,79 @@ const MOST: usize = 240;
 pub fn of_parts(payload: &[u8], parts: &[Part]) -> String {
     let mut text = String::new();
     for part in parts {
-        let said = match part {
-            Part::Frame { range, .. } => of_frame(payload.get(range.clone()).unwrap_or_default()),
-            Part::Invalid(fault) => format!("invalid: {}", fault.what),
-            Part::InvalidParameters(fault) => format!("invalid transport parameters: {}", fault.what),
-            Part::Parameters(..) | Part::Lost(_) => continue,
+        let end = text.len();
+        text.push_str(if end == 0 { "" } else { ", " });
+        let begin = text.len();
+        // Writing to a string doesn't fail.
+        let _ = match part {
+            Part::Frame { range, .. } => of_frame(payload.get(range.clone()).unwrap_or_default(), &mut text),
+            Part::Invalid(fault) => write!(text, "invalid: {}", fault.what),
+            Part::InvalidParameters(fault) => write!(text, "invalid transport parameters: {}", fault.what),
+            Part::Parameters(..) | Part::Lost(_) => {
+                text.truncate(end);
+                continue;
+            }
         };
-        if text.len() + said.len() > MOST {
-            text.push_str(", …");
+        if end + text.len() - begin > MOST {
+            text.truncate(begin);
+            text.push('…');
             break;
         }
-        let comma = if text.is_empty() { "" } else { ", " };
-        let _ = write!(text, "{comma}{said}");
     }
     text
 }
 
-fn of_frame(bytes: &[u8]) -> String {
-    let Some(frame) = frame_of(bytes) else { return "?".into() };
-    let (name, span) = (frame.ty(), |offset: u64, bytes: &[u8]| format!("{offset}..{}", offset + bytes.len() as u64));
+fn of_frame(bytes: &[u8], text: &mut String) -> fmt::Result {
+    let Some(frame) = frame_of(bytes) else { return text.write_str("?") };
+    let (name, end_of) = (frame.ty(), |offset: u64, bytes: &[u8]| offset + bytes.len() as u64);
     match &frame {
-        Frame::Padding => format!("PADDING {}", bytes.len()),
-        Frame::Ack(ack) => format!("{name} {}", ranges(ack)),
-        Frame::Crypto(crypto) => format!("{name} {}", span(crypto.offset, crypto.bytes)),
-        Frame::Stream(stream) => {
-            let fin = if stream.fin { " FIN" } else { "" };
-            format!("STREAM {} {}{fin}", u64::from(stream.id), span(stream.offset, stream.bytes))
+        Frame::Padding => write!(text, "PADDING {}", bytes.len()),
+        Frame::Ack(ack) => {
+            write!(text, "{name} ")?;
+            ranges(ack, text)
         }
-        Frame::Datagram(datagram) => format!("DATAGRAM {}", datagram.bytes.len()),
-        Frame::ResetStream(reset) => format!("{name} {}", u64::from(reset.id)),
-        Frame::StopSending(stop) => format!("{name} {}", u64::from(stop.id)),
-        Frame::MaxData(most) => format!("{name} {most}"),
-        Frame::DataBlocked { offset } => format!("{name} {offset}"),
+        Frame::Crypto(one) => write!(text, "{name} {}..{}", one.offset, end_of(one.offset, one.bytes)),
+        Frame::Stream(one) => {
+            let (id, fin) = (u64::from(one.id), if one.fin { " FIN" } else { "" });
+            write!(text, "STREAM {id} {}..{}{fin}", one.offset, end_of(one.offset, one.bytes))
+        }
+        Frame::Datagram(one) => write!(text, "DATAGRAM {}", one.bytes.len()),
+        Frame::ResetStream(reset) => write!(text, "{name} {}", u64::from(reset.id)),
+        Frame::StopSending(stop) => write!(text, "{name} {}", u64::from(stop.id)),
+        Frame::MaxData(most) => write!(text, "{name} {most}"),
+        Frame::DataBlocked { offset } => write!(text, "{name} {offset}"),
         Frame::MaxStreamData { id, offset } | Frame::StreamDataBlocked { id, offset } => {
-            format!("{name} {} {offset}", u64::from(*id))
+            write!(text, "{name} {} {offset}", u64::from(*id))
         }
-        Frame::MaxStreams { count, .. } => format!("{name} {count}"),
-        Frame::StreamsBlocked { limit, .. } => format!("{name} {limit}"),
-        Frame::NewConnectionId(new) => format!("{name} {}", new.sequence),
-        Frame::RetireConnectionId { sequence } => format!("{name} {sequence}"),
-        Frame::Close(_) => close(bytes, &name.to_string()),
-        _ => name.to_string(),
+        Frame::MaxStreams { count, .. } => write!(text, "{name} {count}"),
+        Frame::StreamsBlocked { limit, .. } => write!(text, "{name} {limit}"),
+        Frame::NewConnectionId(new) => write!(text, "{name} {}", new.sequence),
+        Frame::RetireConnectionId { sequence } => write!(text, "{name} {sequence}"),
+        Frame::Close(_) => close(bytes, &name.to_string(), text),
+        _ => write!(text, "{name}"),
     }
 }
 
-fn ranges(ack: &Ack<'_>) -> String {
-    let said = |(least, greatest)| if least == greatest { format!("{least}") } else { format!("{least}-{greatest}") };
-    let mut ranges = ack.iter().map(|range| (*range.start(), *range.end()));
-    let mut said: Vec<_> = ranges.by_ref().take(MOST_RANGES).map(said).collect();
-    said.extend(ranges.next().map(|_| "…".into()));
-    said.join(",")
+fn ranges(ack: &Ack<'_>, text: &mut String) -> fmt::Result {
+    for (place, range) in ack.iter().enumerate() {
+        let comma = if place == 0 { "" } else { "," };
+        let (least, greatest) = (*range.start(), *range.end());
+        if place == MOST_RANGES {
+            return write!(text, "{comma}…");
+        }
+        write!(text, "{comma}{least}")?;
+        if least < greatest {
+            write!(text, "-{greatest}")?;
+        }
+    }
+    Ok(())
 }
 
-fn close(bytes: &[u8], name: &str) -> String {
-    let Some(said) = words::close(bytes) else { return name.into() };
-    let reason = match &said.reason[..] {
-        [] => String::new(),
-        reason => format!(" {}", Value::Text(&reason[..reason.len().min(MOST_REASON)])),
-    };
-    format!("CONNECTION_CLOSE {}{reason}", said.error())
+fn close(bytes: &[u8], name: &str, text: &mut String) -> fmt::Result {
+    let Some(said) = words::close(bytes) else { return text.write_str(name) };
+    write!(text, "CONNECTION_CLOSE {}", said.error())?;
+    match &said.reason[..] {
+        [] => Ok(()),
+        reason => write!(text, " {}", Value::Text(&reason[..reason.len().min(MOST_REASON)])),
+    }
 }

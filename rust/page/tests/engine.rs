@@ -51,6 +51,25 @@ fn connections_are_those_that_are_printed() {
     }
 }
 
+// A datagram and a connection at a time.
+#[test]
+fn steps_find_what_one_piece_has() {
+    for recorded in captures(FOLDER) {
+        let whole = recorded.read(Purpose::Table, 1 << 20);
+        let mut engine = Engine::new(Purpose::Table);
+        engine.add_keylog(&recorded.keys);
+        for piece in recorded.file.chunks(5000) {
+            engine.put(piece);
+            while engine.step(1).unwrap() {}
+        }
+        while engine.finish_some(1) {}
+        assert_eq!(engine.lines(), whole.lines(), "{}", recorded.name);
+        assert_eq!(engine.check_lines(), whole.check_lines(), "{}", recorded.name);
+        assert_eq!(engine.summary(), whole.summary(), "{}", recorded.name);
+        assert_eq!(engine.rows(0, engine.count()), whole.rows(0, whole.count()), "{}", recorded.name);
+    }
+}
+
 #[test]
 fn lost_packets_are_those_that_are_counted() {
     for recorded in captures(FOLDER) {
@@ -170,6 +189,7 @@ fn filters_list_what_they_say() {
         }
     }
     assert_eq!(table.filter("pn:x").unwrap_err(), "\"pn:x\": \"x\" isn't a number or a range");
+    assert_eq!(table.filter(&"-x ".repeat(65)).unwrap_err(), "65 words, and a filter has at most 64");
     assert_eq!(table.shown(), all.iter().filter(|row| row["sender"] == "server").count(), "the list stays");
     table.filter("").unwrap();
     assert_eq!(table.shown(), all.len());

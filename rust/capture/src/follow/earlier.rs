@@ -197,7 +197,8 @@ impl Follower {
         let Follower { connections, keylog, buffer, .. } = self;
         let mut tries = near.iter().flat_map(|owner| (0..=MOST_ID).map(move |id_len| (*owner, id_len)));
         let (owner, id_len) = tries.find(|((number, sender), id_len)| {
-            let offloaded = Offloaded { bytes: datagram.bytes, begin: 0, id_len: *id_len, sender: *sender };
+            let (bytes, id_len, sender) = (datagram.bytes, *id_len, *sender);
+            let offloaded = Offloaded { bytes, begin: 0, id_len, sender, is_guess: true };
             let connection = connections.get_mut(number);
             connection.is_some_and(|one| one.segment_len(offloaded, keylog, buffer).is_some())
         })?;

@@ -156,11 +156,13 @@ pub struct Report<'a> {
     begun: Option<u64>,
     parts: Vec<Part>,
     tallies: HashMap<usize, Tally>,
+    /// The number of the first connection that isn't summed up, of those that are still there.
+    summed: usize,
 }
 
 impl<'a> Report<'a> {
     pub fn new(filter: Cow<'a, Filter>, forms: Vec<Box<dyn Form + 'a>>) -> Self {
-        Report { filter, forms, begun: None, parts: Vec::new(), tallies: HashMap::new() }
+        Report { filter, forms, begun: None, parts: Vec::new(), tallies: HashMap::new(), summed: 0 }
     }
 
     /// Says when a datagram was captured, if what is found in it is passed on to this sink.
@@ -220,6 +222,13 @@ impl<'a> Report<'a> {
         self.parts = parts;
     }
 
+    /// Sums up a connection at the end of the capture, for callers that do so step by step: in the order of their
+    /// numbers. The end does so for those that are left.
+    pub fn sum_up(&mut self, connection: &Connection) {
+        self.sum(connection, None);
+        self.summed = connection.number() + 1;
+    }
+
     fn sum(&mut self, connection: &Connection, how: Option<Ended>) {
         let tally = self.tallies.remove(&connection.number()).unwrap_or_default();
         if self.filter.has_connection(Some(connection)) {
@@ -238,7 +247,7 @@ struct Marks {
 
 impl Taker for Report<'_> {
     fn begin(&mut self, file: &OsStr) {
-        self.begun = None;
+        (self.begun, self.summed) = (None, 0);
         self.forms.iter_mut().for_each(|form| form.begin(file));
     }
 
@@ -250,7 +259,7 @@ impl Taker for Report<'_> {
     // Sums up the connections that weren't forgotten, then all.
     fn end(&mut self, follower: &mut Follower, capture: &Capture) {
         follower.finish(self);
-        follower.connections().for_each(|connection| self.sum(connection, None));
+        follower.connections_from(self.summed).for_each(|connection| self.sum_up(connection));
         self.tallies.clear();
         let (counts, skipped_lines) = (follower.counts(), follower.keylog.skipped());
         let whole = Whole { begun: self.begun, capture, counts, skipped_lines };

@@ -17,6 +17,12 @@ const LONGEST_SEGMENT: usize = 9216;
 const LEAST_SEGMENT: usize = 600;
 const MOST_SIZES: usize = 128;
 
+// After so many datagrams of a side in a row that open with no size, all sizes are tried only with one in so many, and
+// so many sizes with the others: a forged datagram would take the time of a thousand.
+const MOST_IN_VAIN: u32 = 8;
+const SELDOM: u32 = 64;
+const LIKELY_SIZES: usize = 4;
+
 /// How headers are read: the fixed bit may be clear (RFC 9287).
 pub(crate) const CHECKS: HeaderChecks = HeaderChecks { grease_quic_bit: true, any_version: true, whole_retry: false };
 
@@ -100,6 +106,8 @@ pub(crate) struct Keyring {
     phases: [Option<Box<Phase>>; 2],
     /// The size of the last segments of each side.
     segments: [usize; 2],
+    /// How many datagrams of each side opened with no size since then.
+    in_vain: [u32; 2],
 }
 
 impl Keyring {
@@ -112,6 +120,7 @@ impl Keyring {
             handshake: [None, None],
             phases: [None, None],
             segments: [0; 2],
+            in_vain: [0; 2],
         }
     }
 
@@ -216,9 +225,10 @@ impl Keyring {
         buffer: &mut Vec<u8>,
     ) -> Option<usize> {
         let Offloaded { bytes, begin, id_len, sender } = datagram;
-        let last = self.segments[sender as usize];
+        let (last, in_vain) = (self.segments[sender as usize], self.in_vain[sender as usize]);
+        let has_all = in_vain < MOST_IN_VAIN || in_vain % SELDOM == 0;
         let mut size_by = |phase: &mut Phase| {
-            datagram.sizes(last).find(|size| {
+            datagram.sizes(last).take(if has_all { usize::MAX } else { LIKELY_SIZES }).find(|size| {
                 let segment = Packets::with_checks(&bytes[begin..*size], id_len, &VERSIONS, CHECKS).next();
                 let Some(Ok(packet)) = segment else { return false };
                 phase.open(Candidate { packet, sender, expected }, buffer).is_some()
@@ -226,14 +236,19 @@ impl Keyring {
         };
         let slot = &mut self.phases[sender as usize];
         let size = match slot {
-            Some(phase) => size_by(phase)?,
+            Some(phase) => size_by(phase),
             None => {
-                let mut phases = first_phases(known, sender);
-                let (size, phase) = phases.find_map(|mut phase| Some((size_by(&mut phase)?, phase)))?;
-                *slot = Some(Box::new(phase));
-                size
+                let mut phases = first_phases(known, sender).peekable();
+                phases.peek()?;
+                let found = phases.find_map(|mut phase| Some((size_by(&mut phase)?, phase)));
+                found.map(|(size, phase)| {
+                    *slot = Some(Box::new(phase));
+                    size
+                })
             }
         };
+        self.in_vain[sender as usize] = if size.is_some() { 0 } else { in_vain.wrapping_add(1) };
+        let size = size?;
         if size < bytes.len() {
             self.segments[sender as usize] = size;
         }

@@ -132,10 +132,13 @@ impl Connection {
         streams.filter(|stream| stream.held() > 0).for_each(CryptoStream::give_up);
     }
 
-    /// Forgets all packets of each number space but the latest.
+    /// Forgets all packets of each number space but the latest, and as many ids of each side.
     pub(crate) fn remember(&mut self, most: usize) {
         self.most_packets = most;
-        self.ends.iter_mut().flat_map(|end| &mut end.recovery.spaces).for_each(|space| space.remember(most));
+        for end in &mut self.ends {
+            end.remember_ids(most);
+            end.recovery.spaces.iter_mut().for_each(|space| space.remember(most));
+        }
     }
 
     /// Whether no 1-RTT packet of a side was opened.
@@ -286,6 +289,7 @@ impl Connection {
     pub(crate) fn take_retry(&mut self, retried: &Retried, time: u64) {
         self.retry_id = Some(retried.id());
         self.again = Some(Box::default());
+        self.ends[Side::Client as usize].recovery.begin_again();
         self.last = self.last.max(time);
         self.keys.retry(retried);
     }

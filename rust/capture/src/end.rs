@@ -8,8 +8,10 @@ use quic_wire::{ConnectionId, ResetToken};
 
 pub use crate::recovery::{MOST_PACKETS, Sent};
 
-/// How many ids of a side are remembered, those of the greatest sequence numbers.
+/// How many ids of a side are remembered at most, those of the greatest sequence numbers. With many connections it is
+/// as many as packets, but at least some.
 pub const MOST_IDS: usize = 64;
+const LEAST_IDS: usize = 16;
 
 /// The close of a side.
 #[derive(Clone, Copy, Debug, PartialEq, Eq)]
@@ -125,6 +127,15 @@ impl End {
         }
     }
 
+    /// Forgets all ids but so many.
+    pub(crate) fn remember_ids(&mut self, most: usize) {
+        let further = self.ids.len().saturating_sub(most.clamp(LEAST_IDS, MOST_IDS));
+        if further > 0 {
+            self.ids.drain(..further);
+            self.ids.shrink_to_fit();
+        }
+    }
+
     /// Notes the reset token of the id that a transport parameter has it for.
     pub(crate) fn add_token(&mut self, token: ResetToken) {
         if let Some((0, _, unset @ None)) = self.ids.first_mut() {
@@ -134,5 +145,22 @@ impl End {
 
     pub(crate) fn tokens(&self) -> impl Iterator<Item = &ResetToken> {
         self.ids.iter().filter_map(|(_, _, token)| token.as_ref())
+    }
+}
+
+#[cfg(test)]
+mod tests {
+    use super::*;
+
+    #[test]
+    fn the_latest_ids_are_remembered() {
+        let mut end = End::default();
+        (0..100).for_each(|sequence| end.add_id(sequence, ConnectionId::new(&[sequence as u8]), None));
+        let known = |end: &End| end.ids().map(|(sequence, ..)| sequence).collect::<Vec<_>>();
+        assert_eq!(known(&end), (36..100).collect::<Vec<_>>());
+        end.remember_ids(20);
+        assert_eq!(known(&end), (80..100).collect::<Vec<_>>());
+        end.remember_ids(1);
+        assert_eq!(known(&end), (84..100).collect::<Vec<_>>());
     }
 }

@@ -8,7 +8,7 @@ use crate::keylog::KeyLog;
 use crate::keyring::{CHECKS, MOST_USUAL, Offloaded};
 use crate::keys::VERSIONS;
 use crate::opened::{Reset, Retried, id_of};
-use crate::search::Found;
+use crate::search::{Found, short_packet};
 use crate::sink::{Event, Rest, Sink, Unopened};
 use earlier::Strays;
 use quic_wire::datagram::{HeaderError, HeaderKind, PacketRef, Packets};
@@ -159,8 +159,13 @@ impl Follower {
 
     // Whether a short header's packet, or the first of several, is one of these senders.
     fn opens(&mut self, datagram: &Datagram<'_>, owners: &[Owner], id_len: usize) -> bool {
+        let only = short_packet(datagram.bytes, id_len).filter(|_| !may_be_several(datagram, id_len));
         let Follower { connections, keylog, buffer, .. } = self;
         owners.iter().any(|(number, sender)| {
+            if let Some(packet) = only {
+                let connection = connections.get_mut(number);
+                return connection.is_some_and(|one| one.open(&packet, *sender, keylog, buffer).is_some());
+            }
             let offloaded = Offloaded { bytes: datagram.bytes, begin: 0, id_len, sender: *sender, is_guess: false };
             let connection = connections.get_mut(number);
             connection.is_some_and(|one| one.segment_len(offloaded, keylog, buffer).is_some())
@@ -414,10 +419,10 @@ impl Follower {
 
     // Learns the ids and the path of a connection, from what was authentic.
     fn learn(&mut self, (number, sender): Owner, datagram: &Datagram<'_>, ids: &[(ConnectionId, Side)]) {
-        let most = self.most_paths();
+        let (most, most_ids) = (self.most_paths(), self.most_ids());
         let Follower { connections, index, .. } = self;
         let is_weak = |number| connections.get(&number).is_none_or(|one| !one.is_named);
-        ids.iter().for_each(|(id, chosen_by)| index.add_id(*id, (number, !*chosen_by), is_weak));
+        ids.iter().for_each(|(id, chosen_by)| index.add_id(*id, (number, !*chosen_by), most_ids, is_weak));
         index.add_path((datagram.from, datagram.to), (number, sender), most, is_weak);
         index.add_path((datagram.to, datagram.from), (number, !sender), most, is_weak);
     }

@@ -7,7 +7,7 @@ use std::net::SocketAddr;
 /// How many connections may share an id or a pair of addresses, and are tried.
 const MOST_OWNERS: usize = 8;
 
-/// How many ids, and at most how many pairs of addresses, of a connection are remembered, the latest.
+/// How many ids, and how many pairs of addresses, of a connection are remembered at most, the latest.
 pub(crate) const MOST_PLACES: usize = 256;
 
 /// From whom, to whom.
@@ -52,8 +52,9 @@ impl Index {
         self.by_path.get(&path).into_iter().flatten().rev().copied()
     }
 
-    /// Adds an id to which a connection's packets are sent. If too many share it, one that `is_weak` makes room.
-    pub(crate) fn add_id(&mut self, id: ConnectionId, owner: Owner, is_weak: impl Fn(usize) -> bool) {
+    /// Adds an id to which a connection's packets are sent. So many of the connection are remembered. If too many share
+    /// it, one that `is_weak` makes room.
+    pub(crate) fn add_id(&mut self, id: ConnectionId, owner: Owner, most: usize, is_weak: impl Fn(usize) -> bool) {
         if id.is_empty() {
             return;
         }
@@ -63,11 +64,8 @@ impl Index {
         }
         self.lens[id.len()] += usize::from(owners.is_empty());
         push(owners, owner, is_weak);
-        let ids = &mut self.of.entry(owner.0).or_default().ids;
-        ids.push_back((id, owner.1));
-        if let Some((id, side)) = Some(MOST_PLACES).filter(|most| ids.len() > *most).and_then(|_| ids.pop_front()) {
-            self.remove_id(id, (owner.0, side));
-        }
+        self.of.entry(owner.0).or_default().ids.push_back((id, owner.1));
+        self.remember_ids(owner.0, most);
     }
 
     /// Adds the addresses between which a connection's packets are sent. So many of the connection are remembered.
@@ -83,11 +81,22 @@ impl Index {
             return;
         }
         self.of.entry(owner.0).or_default().paths.push_back((path, owner.1));
-        self.remember(owner.0, most);
+        self.remember_paths(owner.0, most);
+    }
+
+    /// Forgets all ids of a connection but the latest.
+    pub(crate) fn remember_ids(&mut self, connection: usize, most: usize) {
+        while let Some(places) = self.of.get_mut(&connection).filter(|places| places.ids.len() > most) {
+            let Some((id, side)) = places.ids.pop_front() else { return };
+            if places.ids.capacity() > 4 * most {
+                places.ids.shrink_to(most);
+            }
+            self.remove_id(id, (connection, side));
+        }
     }
 
     /// Forgets all pairs of addresses of a connection but the latest.
-    pub(crate) fn remember(&mut self, connection: usize, most: usize) {
+    pub(crate) fn remember_paths(&mut self, connection: usize, most: usize) {
         while let Some(places) = self.of.get_mut(&connection).filter(|places| places.paths.len() > most) {
             let Some((path, side)) = places.paths.pop_front() else { return };
             if places.paths.capacity() > 4 * most {
@@ -141,8 +150,8 @@ mod tests {
     #[test]
     fn the_known_ids_of_a_short_header() {
         let mut index = Index::default();
-        index.add_id(ConnectionId::new(&[1, 2]), (0, Side::Client), |_| false);
-        index.add_id(ConnectionId::new(&[1, 2, 3]), (1, Side::Server), |_| false);
+        index.add_id(ConnectionId::new(&[1, 2]), (0, Side::Client), MOST_PLACES, |_| false);
+        index.add_id(ConnectionId::new(&[1, 2, 3]), (1, Side::Server), MOST_PLACES, |_| false);
         let (one, two) = ((&[(0, Side::Client)][..], 2), (&[(1, Side::Server)][..], 3));
         let all = |index: &Index, packet: &[u8]| index.to_short(packet).map(|(_, len)| len).collect::<Vec<_>>();
         assert_eq!(index.to_short(&[0x40, 1, 2, 3, 4]).collect::<Vec<_>>(), [two, one]);
@@ -157,7 +166,7 @@ mod tests {
         let mut index = Index::default();
         for connection in 0..100 {
             index.add_path(path(1), (connection, Side::Client), MOST_PLACES, |one| one != 3);
-            index.add_id(ConnectionId::new(&[7; 8]), (connection, Side::Client), |one| one != 3);
+            index.add_id(ConnectionId::new(&[7; 8]), (connection, Side::Client), MOST_PLACES, |one| one != 3);
         }
         let owners: Vec<_> = index.on_path(path(1)).map(|owner| owner.0).collect();
         assert_eq!(owners, [99, 98, 97, 96, 95, 94, 93, 3]);
@@ -169,12 +178,16 @@ mod tests {
         let mut index = Index::default();
         for n in 0..2000u16 {
             index.add_path(path(n), (0, Side::Client), MOST_PLACES, |_| false);
-            index.add_id(ConnectionId::new(&n.to_be_bytes()), (0, Side::Client), |_| false);
+            index.add_id(ConnectionId::new(&n.to_be_bytes()), (0, Side::Client), MOST_PLACES, |_| false);
         }
         assert_eq!((index.by_path.len(), index.by_id.len()), (MOST_PLACES, MOST_PLACES));
-        index.remember(0, 3);
+        index.remember_paths(0, 3);
         assert_eq!(index.on_path(path(1996)).count() + index.on_path(path(1997)).count(), 1);
         assert_eq!((index.by_path.len(), index.by_id.len()), (3, MOST_PLACES));
+        index.remember_ids(0, 5);
+        assert_eq!((index.by_id.len(), index.to_id(&1994u16.to_be_bytes()), index.lens[2]), (5, &[][..], 5));
+        index.add_id(ConnectionId::new(&[1]), (0, Side::Client), 5, |_| false);
+        assert_eq!((index.by_id.len(), index.to_id(&1995u16.to_be_bytes()), index.lens[2]), (5, &[][..], 4));
         index.forget(0);
         assert_eq!((index.by_path.len(), index.by_id.len(), index.lens), (0, 0, [0; 21]));
     }

@@ -9,8 +9,9 @@ const MOST_CONNECTIONS: usize = 1 << 18;
 // With more connections, the secrets of one that ended are forgotten.
 const MOST_ENDED: usize = 1 << 14;
 
-// The longest line that matters has a label, 32 bytes and 48 bytes as digits.
-const MOST_LINE: usize = 256;
+// The most bytes of a line that comes in pieces. One that matters has a label, 32 bytes and 48 bytes as digits; one of
+// another secret isn't skipped either.
+const MOST_LINE: usize = 1 << 16;
 
 /// Which secret of a connection a line has.
 #[derive(Clone, Copy, Debug, PartialEq, Eq, Hash)]
@@ -67,7 +68,8 @@ const NO_SECRET: Secret = Secret { bytes: [0; 48], len: 0 };
 /// ```
 #[derive(Default)]
 pub struct KeyLog {
-    secrets: HashMap<[u8; 32], [Secret; LABELS.len()]>,
+    // In boxes, since a map has room for up to twice as many.
+    secrets: HashMap<[u8; 32], Box<[Secret; LABELS.len()]>>,
     // The connections in the order in which they came.
     randoms: VecDeque<[u8; 32]>,
     // How many secrets came, also those that were forgotten.
@@ -147,7 +149,7 @@ impl KeyLog {
             self.randoms.push_back(random);
         }
         self.added += 1;
-        let secrets = self.secrets.entry(random).or_insert([NO_SECRET; LABELS.len()]);
+        let secrets = self.secrets.entry(random).or_insert_with(|| Box::new([NO_SECRET; LABELS.len()]));
         secrets[*label as usize] = Secret { bytes, len: len as u8 };
         true
     }
@@ -184,7 +186,7 @@ impl KeyLog {
 /// assert_eq!(log.secret(&[0xab; 32], Label::ServerTraffic), Some(&[1; 48][..]));
 /// assert_eq!(log.skipped(), 0);
 /// ```
-#[derive(Default)]
+#[derive(Clone, Default)]
 pub struct GrowingLog {
     // The line that has no end yet; a piece of it if it is too long.
     line: Vec<u8>,

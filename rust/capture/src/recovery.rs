@@ -288,6 +288,15 @@ impl Recovery {
         outcomes
     }
 
+    /// Begins again, as a client does after a Retry (RFC 9002, section 6.3): what it sent before doesn't count as lost.
+    pub(crate) fn begin_again(&mut self) {
+        self.rtt = None;
+        for space in &mut self.spaces {
+            space.waiting.0.clear();
+            space.loss_time = None;
+        }
+    }
+
     /// Returns what counts as lost before a time, without a further acknowledgment.
     pub(crate) fn expire(&mut self, now: u64) -> Vec<Outcome> {
         let mut outcomes = Vec::new();

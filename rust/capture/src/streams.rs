@@ -136,6 +136,15 @@ impl Stream {
     }
 }
 
+// By connection, stream and whether the server is the sender.
+type Key = (usize, StreamId, bool);
+
+// The keys of a connection, whose number isn't the greatest.
+fn keys_of(connection: usize) -> Range<Key> {
+    let first = |connection| (connection, StreamId::default(), false);
+    first(connection)..first(connection.saturating_add(1))
+}
+
 /// The streams of a capture: a sink, which takes what a [`crate::follow::Follower`] finds.
 ///
 /// ```
@@ -154,16 +163,14 @@ impl Stream {
 /// ```
 #[derive(Clone, Debug, Default)]
 pub struct Streams {
-    /// By connection, stream and whether the server is the sender.
-    all: BTreeMap<(usize, StreamId, bool), Stream>,
+    all: BTreeMap<Key, Stream>,
     further: u64,
 }
 
 impl Streams {
     /// The streams of a connection, each with who sends on it, in the order of their ids, the client first.
     pub fn of(&self, connection: usize) -> impl Iterator<Item = (StreamId, Side, &Stream)> {
-        let first = (connection, StreamId::default(), false);
-        let all = self.all.range(first..).take_while(move |((number, ..), _)| *number == connection);
+        let all = self.all.range(keys_of(connection));
         all.map(|((_, id, is_server), stream)| (*id, if *is_server { Side::Server } else { Side::Client }, stream))
     }
 
@@ -174,7 +181,8 @@ impl Streams {
 
     /// Forgets the streams of a connection.
     pub fn forget(&mut self, connection: usize) {
-        self.all.retain(|(number, ..), _| *number != connection);
+        let keys: Vec<_> = self.all.range(keys_of(connection)).map(|(key, _)| *key).collect();
+        keys.iter().for_each(|key| drop(self.all.remove(key)));
     }
 
     fn with(&mut self, connection: &Connection, id: StreamId, sender: Side, act: impl FnOnce(&mut Stream)) {

@@ -1,13 +1,17 @@
 //! What an endpoint could send: authentic packets with any contents. Whatever they say, nothing panics. The variables
 //! ROUNDS and CONNECTIONS of the environment make it longer.
 mod common;
+#[path = "common/made.rs"]
+mod made;
 
 use common::{CAPTURE, KEYS, Kept, Plain, Random, Rows, Sealer, datagrams, follow_with, opened};
+use made::{Made, Server, Short};
 use quic_wire::datagram::HeaderKind;
 use quic_wire_capture::capture::{Capture, Item};
 use quic_wire_capture::connection::Connection;
 use quic_wire_capture::follow::{Follower, MOST_BEGUN, MOST_HELD};
 use quic_wire_capture::sink::{Ended, Sink};
+use std::time::Instant;
 
 const TYPES: &[u8] = &[
     0, 1, 2, 3, 4, 5, 6, 7, 8, 9, 10, 12, 14, 15, 16, 17, 18, 19, 20, 21, 22, 23, 24, 25, 26, 27, 28, 29, 30, 31, 0x30,
@@ -184,4 +188,31 @@ fn many_connections() {
     if let Ok(status) = std::fs::read_to_string("/proc/self/status") {
         println!("{count} connections, {}", status.lines().find(|line| line.starts_with("VmHWM")).unwrap_or(""));
     }
+}
+
+// Datagrams that a network card would cut, if a key opened them, between sides whose ids have no bytes: all sizes that
+// segments may have are tried on the first ones, and then on few. Segments of the size that is known are cut.
+#[test]
+fn forged_segments() {
+    let mut made = Made { ids: [Vec::new(), Vec::new()], ..Made::new(1) };
+    let (mut follower, all) = (Follower::default(), made.handshake());
+    follower.keylog.add(made.key_log().as_bytes());
+    all.iter().for_each(|kept| follower.take(&kept.datagram(), &mut ()));
+    let mut segments = || {
+        let packets: Vec<_> =
+            [1200, 1200, 300].iter().flat_map(|len| made.packet(Server, Short, &vec![0; *len])).collect();
+        made.datagram(Server, packets)
+    };
+    follower.take(&segments().datagram(), &mut ());
+    let forged = Kept { bytes: [&[0x40][..], &[7; 1600]].concat(), ..all[1].clone() };
+    let mut time = |count: usize| {
+        let begun = Instant::now();
+        (0..count).for_each(|_| follower.take(&forged.datagram(), &mut ()));
+        begun.elapsed()
+    };
+    let first = time(8);
+    let later = time(8);
+    assert!(4 * later < first, "{later:?}, after {first:?} for as many");
+    follower.take(&segments().datagram(), &mut ());
+    assert_eq!((follower.counts().offloaded, follower.counts().segments), (2, 6));
 }

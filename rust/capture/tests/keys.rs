@@ -77,3 +77,11 @@ fn updates() {
     }
     assert!(PacketKeys::new(&[7; 31], Suite::Aes128Gcm, VERSION_1).is_none());
 }
+
+// RFC 9001, section 5.4.4: the first bytes of a sample are the number of a block of ChaCha20, which may be the last one.
+#[test]
+fn the_last_block_of_chacha20() {
+    let keys = PacketKeys::new(&[7; 32], Suite::ChaCha20Poly1305, VERSION_1).unwrap();
+    let mask = keys.mask(&[0xff; SAMPLE_LEN]);
+    assert!(mask.is_none_or(|mask| keys.mask(&[0xfe; SAMPLE_LEN]).is_some_and(|other| mask != other)));
+}

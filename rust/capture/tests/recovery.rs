@@ -4,7 +4,7 @@ mod common;
 mod made;
 
 use common::Kept;
-use made::{Client, Made, Server, Short};
+use made::{Client, Initial, Made, Server, Short, crypto};
 use quic_wire::Side;
 use quic_wire::ids::SpaceId;
 use quic_wire_capture::capture::Datagram;
@@ -188,4 +188,21 @@ fn many_packets() {
     let end = follower.connections().next().unwrap().end(Client);
     let is_known = |number| end.sent(SpaceId::Data, number).is_some();
     assert_eq!([9, 10, count - 1].map(is_known), [false, true, true]);
+}
+
+// Section 6.3: after a Retry a client begins again. The server acknowledges only the Initial packet that answers it, two
+// round trips after the first one.
+#[test]
+fn what_was_sent_before_a_retry() {
+    let mut made = Made::new(1);
+    made.time = BEGIN;
+    let hello = crypto(0, &made.client_hello());
+    let mut all = vec![made.send(Client, Initial, &hello)];
+    made.time += 100 * MS;
+    all.extend([made.retry(b"retried"), made.send(Client, Initial, &hello)]);
+    made.time += 100 * MS;
+    all.push(made.send(Server, Initial, &ack(1, 0, 0)));
+    made.time += 500 * MS;
+    all.push(made.send(Server, Initial, &crypto(0, &made.server_hello())));
+    assert_eq!(Timed { made, all }.follow().1, []);
 }

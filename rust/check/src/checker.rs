@@ -125,6 +125,8 @@ impl Facts {
             Need::NoEarlyData => history.has_early,
             Need::NoToken => history.has_token && connection.retry_id().is_none(),
             Need::Order => self.is_disordered,
+            // What validated the address may have come before.
+            Need::Time => history.validated.is_some_and(|at| at < finding.time.saturating_add(GRACE)),
             Need::Proof => !is_proven,
             Need::End => due.is_some_and(|due| due > connection.times().1) && !is_closed,
             _ => false,
@@ -394,6 +396,7 @@ impl Sink for Checker {
             Event::Again(opened, _) => {
                 self.begin_unsure(connection, opened.sender(), datagram);
                 self.event(connection, datagram, opened, event);
+                self.history(connection).take_destination(opened);
             }
             Event::Parameters { opened, list, .. } => {
                 self.event(connection, datagram, opened, event);
@@ -433,6 +436,8 @@ impl Sink for Checker {
                 _ => None,
             });
             self.history(connection).take_retry(packet);
+        } else if why == Unopened::InvalidRetry {
+            self.history(connection).take_other_retry(packet);
         }
     }
 

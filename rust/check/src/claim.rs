@@ -42,8 +42,8 @@ pub(crate) enum Claim {
     Retired(u64),
     /// It issued an id, and none with the sequence number before.
     Gap(u64),
-    /// It answered a challenge again.
-    AnswerAgain,
+    /// It answered a challenge again, more often than it came.
+    AnswerAgain(u64),
     /// Its parameters say whether there was a Retry, whose record, or one that shows it, may come late.
     Retry,
     /// The server sent so many bytes.
@@ -79,7 +79,7 @@ impl Claim {
             Claim::Unsent { .. }
                 | Claim::Unused(_)
                 | Claim::Answer(_)
-                | Claim::AnswerAgain
+                | Claim::AnswerAgain(_)
                 | Claim::Retry
                 | Claim::Retired(_)
                 | Claim::Gap(_)
@@ -102,10 +102,13 @@ impl Claim {
             Claim::Streams(id) => limits.is_some_and(|limits| id.index() >= count_limit(limits, history, sender, id)),
             // An ACK refutes it.
             Claim::Number { .. } => true,
-            // A challenge with the same data that isn't in the capture would explain it.
-            Claim::AnswerAgain => true,
+            // So would a challenge with the same data that isn't in the capture.
+            Claim::AnswerAgain(data) => {
+                let asked = peer.challenges.get(&data).map_or(1, |path| path.count);
+                history.half(sender).responses.get(&data).is_some_and(|answered| *answered > asked)
+            }
             // A token that comes late makes the rule silent.
-            Claim::Retry => true,
+            Claim::Retry => connection.retry_id().is_none() || history.is_retried,
             Claim::Gap(sequence) => !is_given(connection, history, sender, sequence - 1),
             Claim::Ids => limits.is_some_and(|limits| {
                 active_ids(connection, history, sender, None) > limits.active_connection_id_limit.into_inner()

@@ -5,13 +5,14 @@ use quic_wire::ids::SpaceId;
 use quic_wire::range_set::RangeSet;
 use quic_wire::{ConnectionId, StreamId};
 use quic_wire_capture::capture::Datagram;
-use std::collections::{BTreeMap, HashMap, HashSet};
+use std::collections::{BTreeMap, HashMap};
 use std::net::SocketAddr;
 use std::ops::Range;
 
 // How many bytes a run of numbers and an entry of a map have, at most, while a set or map has room for twice as many.
 const RUN: usize = 2 * size_of::<Range<u64>>();
 const ENTRY: usize = 2 * size_of::<(u64, Stream)>();
+const CHALLENGE: usize = 2 * size_of::<(u64, Path)>();
 
 // How many runs a set has at most.
 const MOST_RUNS: usize = 1 << 16;
@@ -50,11 +51,27 @@ impl Moment {
     }
 }
 
-/// The addresses between which a PATH_CHALLENGE was sent.
+/// The addresses between which a PATH_CHALLENGE was sent, the first one with its data.
 #[derive(Clone, Copy, Debug)]
 pub(crate) struct Path {
     pub(crate) from: SocketAddr,
     pub(crate) to: SocketAddr,
+    /// How many had the same data.
+    pub(crate) count: u64,
+    /// Whether one of them was sent between other addresses.
+    pub(crate) has_others: bool,
+}
+
+impl Path {
+    pub(crate) fn of(datagram: &Datagram<'_>) -> Path {
+        Path { from: datagram.from, to: datagram.to, count: 0, has_others: false }
+    }
+
+    /// Counts one.
+    pub(crate) fn take(&mut self, datagram: &Datagram<'_>) {
+        self.count += 1;
+        self.has_others |= (self.from, self.to) != (datagram.from, datagram.to);
+    }
 }
 
 /// The keys after an update.
@@ -65,6 +82,8 @@ pub(crate) struct Phase {
     pub(crate) first: u64,
     /// A number that isn't greater, below which no packet can have them.
     pub(crate) since: u64,
+    /// Whether a packet with a greater number has older keys.
+    pub(crate) is_mixed: bool,
 }
 
 /// What is known of a side, as the sender of packets.
@@ -88,17 +107,17 @@ pub(crate) struct Half {
     pub(crate) max_streams: [u64; 2],
     /// The sequence numbers of its ids that its peer retired, with the least number of a packet in which it did so.
     pub(crate) retired: BTreeMap<u64, u64>,
-    /// Up to which its ids have to be retired, and the number of the packet that said so.
+    /// Up to which its ids have to be retired, and the numbers of the packets that said so.
     pub(crate) prior: u64,
-    pub(crate) prior_by: Option<u64>,
+    pub(crate) prior_by: RangeSet,
     /// Up to which ids of its peer it knows that they have to be retired, and the number of its packet that shows it.
     pub(crate) heeded: Option<(u64, u64)>,
     /// The sequence numbers that it gave with NEW_CONNECTION_ID.
     pub(crate) issued: RangeSet,
     /// The data of its PATH_CHALLENGEs, and where these were sent.
     pub(crate) challenges: HashMap<u64, Path>,
-    /// The data of its PATH_RESPONSEs.
-    pub(crate) responses: HashSet<u64>,
+    /// The data of its PATH_RESPONSEs, and how many have them.
+    pub(crate) responses: HashMap<u64, u64>,
     /// The numbers of its packets with HANDSHAKE_DONE.
     pub(crate) dones: RangeSet,
     /// When it showed that it has discarded the keys of Initial and of Handshake packets.
@@ -151,9 +170,9 @@ impl Half {
         let next = self.seen[SpaceId::Data as usize].max().map_or(0, |largest| largest + 1);
         match &mut self.phase {
             Some(phase) if phase.updates == updates => phase.first = phase.first.min(number),
-            Some(phase) if phase.updates > updates => {}
+            Some(phase) if phase.updates > updates => phase.is_mixed |= number > phase.first,
             _ if updates == 0 => {}
-            phase => *phase = Some(Phase { updates, first: number, since: next.min(number) }),
+            phase => *phase = Some(Phase { updates, first: number, since: next.min(number), is_mixed: false }),
         }
     }
 
@@ -207,9 +226,10 @@ impl Half {
     /// Whether it has more than so many bytes to remember, or a set of numbers has too many runs: one more run is put
     /// between the others, which moves them.
     pub(crate) fn is_full(&self, most: usize) -> bool {
-        let sets = self.seen.iter().chain(&self.acknowledged).chain([&self.issued, &self.dones]).map(RangeSet::len);
+        let others = [&self.issued, &self.dones, &self.prior_by];
+        let sets = self.seen.iter().chain(&self.acknowledged).chain(others).map(RangeSet::len);
         let (runs, longest) = sets.fold((0, 0), |(sum, longest), runs| (sum + runs, longest.max(runs)));
-        let entries = self.streams.len() + self.retired.len() + self.challenges.len() + self.responses.len();
-        runs * RUN + entries * ENTRY > most || longest > MOST_RUNS
+        let entries = self.streams.len() + self.retired.len() + self.responses.len();
+        runs * RUN + entries * ENTRY + self.challenges.len() * CHALLENGE > most || longest > MOST_RUNS
     }
 }

@@ -2,6 +2,7 @@
 
 use crate::claim::Waiting;
 use crate::half::{Half, Moment, Path, Reset};
+use crate::tls::Messages;
 use crate::vantage::Vantage;
 use quic_wire::datagram::{HeaderKind, PacketRef};
 use quic_wire::frame::{Ack, Crypto, Frame};
@@ -39,6 +40,8 @@ pub(crate) struct Peer {
     pub(crate) sent: u64,
     /// Whether the server may know that the client is there (RFC 9000, sections 8.1 and 8.2).
     pub(crate) is_valid: bool,
+    /// Whether an opened packet came from there that isn't a copy of another.
+    pub(crate) is_own: bool,
 }
 
 /// A token of an Initial packet or a Retry, which may be long: its length and a hash.
@@ -59,8 +62,11 @@ impl Token {
 /// What a Retry said.
 #[derive(Clone, Copy)]
 pub(crate) struct Retry {
+    pub(crate) id: ConnectionId,
     pub(crate) token: Token,
     pub(crate) version: u32,
+    /// Whether another one with the same id had another token. The client may have taken that.
+    pub(crate) has_other_token: bool,
 }
 
 /// What is remembered of a connection.
@@ -71,14 +77,16 @@ pub(crate) struct History {
     pub(crate) has_early: bool,
     /// Whether an Initial packet of the client has a token.
     pub(crate) has_token: bool,
-    /// Whether the server knows the client's address.
-    pub(crate) is_validated: bool,
+    /// Since when the server may know the client's address, in nanoseconds since 1970.
+    pub(crate) validated: Option<u64>,
     /// Whether the handshake is confirmed, as the server has said.
     pub(crate) is_confirmed: bool,
     /// The client's addresses.
     peers: Vec<Peer>,
     /// A Retry whose tag is right.
     pub(crate) retry: Option<Retry>,
+    /// Whether the client sent a packet to the id of the Retry. Otherwise the Retry may not have come, or anyone's.
+    pub(crate) is_retried: bool,
     /// The version and the least number of the client's Initial packets with a token.
     pub(crate) first_token: Option<(u32, u64)>,
     /// The version of the client's last Initial packet before the server answered.
@@ -186,7 +194,7 @@ impl History {
         let address = if sender == Side::Client { datagram.from } else { datagram.to };
         if self.peer(address).is_none() && self.peers.len() < MOST_PEERS {
             self.peers.reserve_exact(1);
-            self.peers.push(Peer { address, received: 0, sent: 0, is_valid: !self.is_confirmed });
+            self.peers.push(Peer { address, received: 0, sent: 0, is_valid: !self.is_confirmed, is_own: false });
         }
         let Some(peer) = self.peers.iter_mut().find(|peer| peer.address == address) else { return };
         let count = if sender == Side::Client { &mut peer.received } else { &mut peer.sent };
@@ -215,10 +223,13 @@ impl History {
 
     /// Takes the header of an opened packet whose number is new. Only about so many bytes are remembered.
     pub(crate) fn take_packet(&mut self, datagram: &Datagram<'_>, opened: &Opened<'_>, most: usize) {
-        use HeaderKind::{Handshake, Initial, ZeroRtt};
+        use HeaderKind::{Handshake, ZeroRtt};
         let (sender, packet) = (opened.sender(), opened.packet());
         let server_id = self.halves[Side::Server as usize].sources.first().copied();
         let half = &mut self.halves[sender as usize];
+        if let Some(peer) = self.peers.iter_mut().find(|peer| peer.address == datagram.from) {
+            peer.is_own = true;
+        }
         self.is_full |= half.is_full(most / 2);
         if packet.header().is_short() {
             half.least_short = Some(half.least_short.map_or(opened.number(), |least| least.min(opened.number())));
@@ -246,30 +257,59 @@ impl History {
         }
         self.has_early |= opened.kind() == ZeroRtt;
         if sender == Side::Client {
-            // RFC 9000, section 8.1: an id of eight bytes or more that the server chose shows the address, too.
-            let knows = server_id.is_some_and(|id| id.len() >= 8 && id[..] == *packet.dst_cid());
-            let has_token = opened.kind() == Initial && !packet.token().is_empty();
-            self.has_token |= has_token;
-            self.is_validated |= opened.kind() == Handshake || has_token || knows;
-            if opened.kind() == Initial {
-                let version = packet.header().version();
-                if has_token {
-                    let (_, least) = self.first_token.get_or_insert((version, opened.number()));
-                    *least = opened.number().min(*least);
-                }
-                self.original_version = self.original_version.filter(|_| server_id.is_some()).or(Some(version));
-            }
+            self.take_packet_of_client(datagram, opened, server_id);
         } else {
             // No Retry can come any more.
             self.hello = Vec::new();
         }
     }
 
+    // Takes a long header of the client, by the id of the server if that is known.
+    fn take_packet_of_client(&mut self, datagram: &Datagram<'_>, opened: &Opened<'_>, server_id: Option<ConnectionId>) {
+        let (packet, is_initial) = (opened.packet(), opened.kind() == HeaderKind::Initial);
+        // RFC 9000, section 8.1: an id of eight bytes or more that the server chose shows the address, too.
+        let knows = server_id.is_some_and(|id| id.len() >= 8 && id[..] == *packet.dst_cid());
+        let has_token = is_initial && !packet.token().is_empty();
+        self.has_token |= has_token;
+        if opened.kind() == HeaderKind::Handshake || has_token || knows {
+            self.validated.get_or_insert(datagram.time);
+        }
+        self.take_destination(opened);
+        if is_initial {
+            let version = packet.header().version();
+            if has_token {
+                let (_, least) = self.first_token.get_or_insert((version, opened.number()));
+                *least = opened.number().min(*least);
+            }
+            self.original_version = self.original_version.filter(|_| server_id.is_some()).or(Some(version));
+        }
+    }
+
+    /// Takes note of a packet to the id of the Retry, also one whose number was used before.
+    pub(crate) fn take_destination(&mut self, opened: &Opened<'_>) {
+        let packet = opened.packet();
+        let is_bound = !self.is_retried && opened.sender() == Side::Client && !packet.header().is_short();
+        if is_bound && self.retry.is_some_and(|retry| *retry.id == *packet.dst_cid()) {
+            self.is_retried = true;
+            // Its CRYPTO data begin again.
+            self.halves[Side::Client as usize].messages[SpaceId::Initial as usize] = Messages::default();
+        }
+    }
+
     /// Takes a Retry whose tag is right.
     pub(crate) fn take_retry(&mut self, packet: &PacketRef<'_>) {
         if let Some((token, _)) = packet.header().retry(packet.data()) {
-            let version = packet.header().version();
-            self.retry = Some(Retry { token: Token::of(token), version });
+            let (id, version) =
+                (ConnectionId::try_from(packet.src_cid()).unwrap_or_default(), packet.header().version());
+            self.retry = Some(Retry { id, token: Token::of(token), version, has_other_token: false });
+        }
+    }
+
+    /// Takes a Retry after that, or one whose tag is wrong.
+    pub(crate) fn take_other_retry(&mut self, packet: &PacketRef<'_>) {
+        let Some((token, _)) = packet.header().retry(packet.data()) else { return };
+        if let Some(retry) = self.retry.as_mut().filter(|retry| *retry.id == *packet.src_cid()) {
+            retry.has_other_token |= retry.token != Token::of(token);
         }
     }
 
@@ -325,7 +365,10 @@ impl History {
             Frame::NewConnectionId(new) => {
                 own.issued.insert_one(new.sequence);
                 if new.retire_prior_to > own.prior {
-                    (own.prior, own.prior_by) = (new.retire_prior_to, Some(number));
+                    (own.prior, own.prior_by) = (new.retire_prior_to, RangeSet::new());
+                }
+                if new.retire_prior_to == own.prior && own.prior > 0 {
+                    own.prior_by.insert_one(number);
                 }
             }
             Frame::RetireConnectionId { sequence } => {
@@ -333,14 +376,14 @@ impl History {
                 *by = (*by).min(number);
             }
             Frame::PathChallenge(data) => {
-                own.challenges.entry(*data).or_insert(Path { from: datagram.from, to: datagram.to });
+                own.challenges.entry(*data).or_insert_with(|| Path::of(datagram)).take(datagram);
                 // Its answer may be in the file before it.
-                if sender == Side::Server && peer.responses.contains(data) {
+                if sender == Side::Server && peer.responses.contains_key(data) {
                     validate(&mut self.peers, datagram.to);
                 }
             }
             Frame::PathResponse(data) => {
-                own.responses.insert(*data);
+                *own.responses.entry(*data).or_default() += 1;
                 // Section 8.2.3: the path of the challenge is valid, wherever the response comes from.
                 if let Some(path) = peer.challenges.get(data).filter(|_| sender == Side::Client) {
                     validate(&mut self.peers, path.to);
@@ -384,12 +427,11 @@ impl History {
         if space != SpaceId::Data {
             return;
         }
-        let has = |number: u64| ack.iter().any(|range| range.contains(&number));
         if own.discarded(SpaceId::Handshake).is_none() && !peer.dones.acknowledged(ack).is_empty() {
             own.discarded[SpaceId::Handshake as usize] = Some(Moment::of(datagram));
         }
         let is_new = own.heeded.is_none_or(|(prior, _)| prior < peer.prior);
-        if is_new && peer.prior_by.is_some_and(has) {
+        if is_new && !peer.prior_by.is_empty() && !peer.prior_by.acknowledged(ack).is_empty() {
             own.heeded = Some((peer.prior, opened.number()));
         }
     }

@@ -94,7 +94,7 @@ pub enum Need {
     NoEarlyData,
     /// That records are in the order of their times.
     Order,
-    /// That a second has passed, or 10 ms where the packet was sent: the network may reorder packets.
+    /// That a second has passed, or 10 ms where the packet was sent or received: packets may be reordered.
     Time,
     /// That the address was validated by a handshake.
     ValidAddress,

@@ -121,6 +121,10 @@ fn acknowledgments_that_are_missing() {
     talk.finds("retire-prior", "RFC 9000, section 5.1.2", index + 2);
     talk.all.remove(index + 1);
     talk.finds_nothing();
+    // The packet that has it is lost, and the one that has it again isn't.
+    let mut talk = Talk::open();
+    talk.short(Server, &new_id(1, 1, b"first")).short(Server, &new_id(1, 1, b"first")).short(Client, &talk::ack(3));
+    talk.short(Client, PING).finds("retire-prior", "RFC 9000, section 5.1.2", index + 3);
 }
 
 // RFC 9001, section 6.1: a packet that isn't in the capture may have confirmed the handshake, or acknowledged one with
@@ -148,6 +152,23 @@ fn what_permits_a_key_update() {
     talk.later().finds_nothing();
     talk.all.remove(index);
     talk.is_silent("second-update", Need::PeerPackets);
+}
+
+// RFC 9001, section 6.2: the first packet with new keys is lost, and the second one is acknowledged with old keys.
+#[test]
+fn a_lost_packet_with_new_keys() {
+    let mut talk = Talk::open();
+    talk.made.updates = [1, 0];
+    let number = talk.short(Client, PING).short(Client, PING).made.numbers[0][2] - 1;
+    let index = talk.next();
+    talk.short(Server, &talk::ack(number as u8)).finds("update-answer", "RFC 9001, section 6.2", index);
+    // A packet with old keys and a greater number, which breaks `old-keys`, may be the one that is acknowledged.
+    let mut talk = Talk::open();
+    talk.made.updates = [1, 0];
+    talk.short(Client, PING).made.updates = [0, 0];
+    let number = talk.short(Client, PING).made.numbers[0][2] - 1;
+    let index = talk.next();
+    talk.short(Server, &talk::ack(number as u8)).finds("old-keys", "RFC 9001, section 6.4", index - 1);
 }
 
 // RFC 9000, section 19.20: so may one that ended the handshake.

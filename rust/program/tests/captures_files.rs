@@ -13,7 +13,7 @@ use captures::{Folder, SMALL, SMALL_KEYS, a2, block, gzip, kept, pcap, pcapng, s
 use made::{Client, Made, Server, Short};
 use program::run;
 use std::fs;
-use std::io::{BufRead, BufReader, Write};
+use std::io::{BufRead, BufReader, Seek, SeekFrom, Write};
 use std::process::{Command, Stdio};
 
 const PING: &[u8] = &[1];
@@ -196,6 +196,23 @@ fn a_capture_and_a_key_log_that_grow() {
     let lines: Vec<_> = std::iter::from_fn(next).collect();
     assert!(lines.last().unwrap().ends_with(" 5 datagrams, 1 connection, 6 packets opened"), "{lines:#?}");
     assert!(child.wait().unwrap().success());
+}
+
+// A key log on the disk isn't kept: one of 200 MB, with a long line before its secrets, is read in 120 MB of addresses.
+#[test]
+#[cfg(target_os = "linux")]
+fn a_key_log_that_is_longer_than_the_memory() {
+    let folder = Folder::new("long");
+    let log = folder.write("keys", "");
+    let mut file = fs::File::options().write(true).open(&log).unwrap();
+    file.seek(SeekFrom::Start(200_000_000)).unwrap();
+    file.write_all(b"\n").unwrap();
+    file.write_all(&fs::read(SMALL_KEYS).unwrap()).unwrap();
+    let program = env!("CARGO_BIN_EXE_quic-wire");
+    let script = format!("ulimit -v 120000; exec {program} capture {SMALL} --keylog {log}");
+    let output = Command::new("sh").args(["-c", &script]).output().unwrap();
+    let (text, said) = (String::from_utf8_lossy(&output.stdout), String::from_utf8_lossy(&output.stderr));
+    assert!(text.contains(" 16 packets opened") && said.is_empty(), "{said}");
 }
 
 // The reader of the output may end.

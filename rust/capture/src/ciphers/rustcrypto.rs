@@ -77,14 +77,15 @@ impl Mask {
     }
 }
 
-// The sample is a block's number and a nonce (RFC 9001, section 5.4.4).
+// The sample is a block's number and a nonce (RFC 9001, section 5.4.4). The crate makes no last block, of number 2^32 - 1:
+// a packet with such a sample isn't opened.
 fn chacha20_mask(key: &[u8; 32], sample: &[u8; SAMPLE_LEN]) -> Option<[u8; 5]> {
     let (block, nonce) = sample.split_first_chunk()?;
     let nonce: [u8; 12] = nonce.try_into().ok()?;
     let mut stream = chacha20::ChaCha20::new(&Array(*key), &Array(nonce));
-    stream.seek(u64::from(u32::from_le_bytes(*block)) * 64);
+    stream.try_seek(u64::from(u32::from_le_bytes(*block)) * 64).ok()?;
     let mut mask = [0; 5];
-    stream.apply_keystream(&mut mask);
+    stream.try_apply_keystream(&mut mask).ok()?;
     Some(mask)
 }
 

@@ -12,6 +12,7 @@ use crate::search::{Found, Front, MOST_ID, Search, Source, Stray, short_packet};
 use crate::sink::{Ended, Sink, Unopened};
 use quic_wire::datagram::{HeaderKind, PacketRef};
 use quic_wire::ids::SpaceId;
+use std::cell::Cell;
 use std::collections::{BTreeMap, HashMap, HashSet, VecDeque};
 use std::ops::RangeInclusive;
 
@@ -32,6 +33,9 @@ pub const MOST_TRIALS: u64 = 1 << 23;
 
 /// How many more for each datagram of the capture.
 const TRIALS_OF_DATAGRAM: u64 = 1 << 4;
+
+/// How many connections of the key log are looked at in the time of a trial.
+const LOOKS_OF_TRIAL: u64 = 1 << 4;
 
 const ONE_RTT: [Label; 2] = [Label::ClientTraffic, Label::ServerTraffic];
 const HANDSHAKE: [Label; 2] = [Label::ClientHandshake, Label::ServerHandshake];
@@ -135,29 +139,31 @@ impl Strays {
         }
     }
 
-    // The connections of the key log that the capture doesn't have otherwise, the latest first.
+    // The connections of the key log that the capture doesn't have otherwise, the latest first. Counts those that are
+    // looked at.
     fn randoms<'a>(
         &'a self,
         keylog: &'a KeyLog,
         connections: &'a BTreeMap<usize, Box<Connection>>,
+        looks: &'a Cell<u64>,
     ) -> impl Iterator<Item = &'a [u8; 32]> {
         let began_before = |random| {
             let number = self.named.get(random);
             number.is_none_or(|number| connections.get(number).is_some_and(|one| one.began_before()))
         };
-        let unused = keylog.randoms().rev().take(MOST_SCANNED).filter(|random| !self.over.contains(*random));
+        let latest = keylog.randoms().rev().take(MOST_SCANNED).inspect(move |_| looks.set(looks.get() + 1));
+        let unused = latest.filter(|random| !self.over.contains(*random));
         unused.filter(move |random| began_before(*random)).take(MOST_RANDOMS)
     }
 
     // What the keys of these connections follow from.
     fn sources<'a>(
         &'a self,
-        keylog: &'a KeyLog,
-        connections: &'a BTreeMap<usize, Box<Connection>>,
+        (keylog, connections, looks): (&'a KeyLog, &'a BTreeMap<usize, Box<Connection>>, &'a Cell<u64>),
         labels: &'a [Label],
         versions: &'a [u32],
     ) -> impl Iterator<Item = Source> {
-        self.randoms(keylog, connections)
+        self.randoms(keylog, connections, looks)
             .flat_map(move |random| labels.iter().flat_map(move |label| Source::all(keylog, random, *label, versions)))
     }
 }
@@ -298,12 +304,16 @@ impl Follower {
             let fits = |source: &Source| connection.suite().is_none_or(|suite| suite == source.suite.number());
             Some((Some(*number), search.short(&stray, sources.filter(fits))?))
         });
+        let looks = Cell::new(0);
         let found = of_near.or_else(|| {
-            let sources = strays.sources(keylog, connections, &ONE_RTT, &VERSIONS);
+            if !in_log || tries > TRIES {
+                return None;
+            }
+            let sources = strays.sources((keylog, connections, &looks), &ONE_RTT, &VERSIONS);
             (stray.before, stray.acknowledged) = (&before, None);
-            Some((None, search.short(&stray, sources.take_while(|_| in_log && tries <= TRIES))?))
+            Some((None, search.short(&stray, sources)?))
         });
-        let cost = search.cost;
+        let cost = search.cost + looks.get() / LOOKS_OF_TRIAL;
         if before.len() < TRIES {
             before.push(Front::new(datagram.bytes));
         }
@@ -321,8 +331,9 @@ impl Follower {
         }
         let versions = [packet.header().version()];
         let mut search = Search { keylog, buffer, cost: 0, most };
-        let found = search.long(*packet, strays.sources(keylog, connections, labels, &versions));
-        strays.budget.cost += search.cost;
+        let looks = Cell::new(0);
+        let found = search.long(*packet, strays.sources((keylog, connections, &looks), labels, &versions));
+        strays.budget.cost += search.cost + looks.get() / LOOKS_OF_TRIAL;
         found
     }
 
@@ -346,5 +357,35 @@ impl Follower {
         let owner = (connection.number(), label.sender());
         connection.adopt(packet, found);
         self.open(datagram, packet, &[owner], sink)
+    }
+}
+
+#[cfg(test)]
+mod tests {
+    use super::*;
+
+    // A key log of 4,096 connections that all ended, and datagrams of no connection, each from another port: looking at
+    // the key log costs too.
+    #[test]
+    fn datagrams_of_no_connection() {
+        let mut follower = Follower::default();
+        for n in 0..4096u32 {
+            let random = [n.to_be_bytes(); 8].concat();
+            let hex: String = random.iter().map(|byte| format!("{byte:02x}")).collect();
+            follower.keylog.add(format!("CLIENT_TRAFFIC_SECRET_0 {hex} {}", "01".repeat(32)).as_bytes());
+            follower.strays.over.extend(<[u8; 32]>::try_from(random));
+        }
+        follower.limit_trials(2000);
+        let to = ([10, 0, 0, 2], 53).into();
+        let costs: Vec<_> = (1..=10)
+            .map(|port| {
+                let from = ([10, 0, 0, 1], port).into();
+                let bytes = &[0x40; 40];
+                follower.take(&Datagram { record: 1, time: 0, from, to, bytes, missing: 0, outgoing: None }, &mut ());
+                follower.strays.budget.cost
+            })
+            .collect();
+        assert_eq!(costs[..8], [1, 2, 3, 4, 5, 6, 7, 8].map(|count| 256 * count));
+        assert_eq!(costs[8..], [2304, 2304], "it ends after 2,000 trials and 16 for each datagram");
     }
 }

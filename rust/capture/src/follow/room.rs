@@ -25,6 +25,10 @@ const LEAST_REMEMBERED: usize = 8;
 const MOST_PATHS: usize = 1 << 18;
 const LEAST_PATHS: usize = 8;
 
+/// The same of ids, which only those who have the secrets can issue.
+const MOST_IDS: usize = 1 << 21;
+const LEAST_IDS: usize = 16;
+
 // After how many datagrams connections that ended are looked for, at least.
 const SWEEP: usize = 1 << 10;
 
@@ -68,6 +72,11 @@ impl Follower {
         (MOST_PATHS / self.connections.len().max(1)).clamp(LEAST_PATHS, MOST_PLACES)
     }
 
+    /// How many ids of a connection are remembered now.
+    pub(super) fn most_ids(&self) -> usize {
+        (MOST_IDS / self.connections.len().max(1)).clamp(LEAST_IDS, MOST_PLACES)
+    }
+
     /// Forgets the connections that ended, now and then, and of the others what is more than is remembered now.
     pub(super) fn sweep(&mut self, now: u64, sink: &mut dyn Sink) {
         self.room.since_sweep += 1;
@@ -78,10 +87,11 @@ impl Follower {
         let ended: Vec<_> =
             self.connections.iter().filter_map(|(number, one)| Some((*number, one.ended(now)?))).collect();
         ended.into_iter().for_each(|(number, how)| self.forget(number, how, sink));
-        let (packets, paths) = (self.most_packets(), self.most_paths());
+        let (packets, paths, ids) = (self.most_packets(), self.most_paths(), self.most_ids());
         for (number, connection) in &mut self.connections {
             connection.remember(packets);
-            self.index.remember(*number, paths);
+            self.index.remember_paths(*number, paths);
+            self.index.remember_ids(*number, ids);
         }
     }
 

@@ -13,8 +13,19 @@ use quic_wire_capture::opened::Opened;
 // An id of fewer bytes may be there by chance.
 const LEAST_ID: usize = 4;
 
-const AMPLIFICATION: &[Need] =
+const PATH_AMPLIFICATION: &[Need] =
     &[Need::Begin, Need::PeerPackets, Need::OwnPackets, Need::NoEarlyData, Need::NoStrays, Need::Order, Need::End];
+
+const AMPLIFICATION: &[Need] = &[
+    Need::Begin,
+    Need::PeerPackets,
+    Need::OwnPackets,
+    Need::NoEarlyData,
+    Need::NoStrays,
+    Need::Order,
+    Need::Time,
+    Need::End,
+];
 
 pub(super) static RULES: &[Rule] = &[
     Rule::must(
@@ -36,7 +47,7 @@ pub(super) static RULES: &[Rule] = &[
         "A server sends at most three times as many bytes to another address as came from there until it is validated.",
         Check::Datagram(path_amplification),
     )
-    .with(History::Whole, AMPLIFICATION),
+    .with(History::Whole, PATH_AMPLIFICATION),
     Rule::must(
         "payload-size",
         "18.2",
@@ -66,7 +77,7 @@ fn initial_size(about: &About<'_>, opened: &Opened<'_>) -> Checked {
 
 fn amplification(about: &About<'_>) -> Checked {
     let (server, client) = (about.own_half().bytes, about.peer_half().bytes);
-    if about.sender == Side::Client || about.history.is_validated || server <= client.saturating_mul(3) {
+    if about.sender == Side::Client || about.history.validated.is_some() || server <= client.saturating_mul(3) {
         return Ok(None);
     }
     let seen = format!("{server} bytes sent for {client} received");
@@ -90,7 +101,9 @@ fn path_amplification(about: &About<'_>) -> Checked {
 
 fn payload_size(about: &About<'_>) -> Checked {
     let (size, most) = (about.size() as u64, about.limits()?.max_udp_payload_size.into_inner());
-    if size <= most {
+    // A client knows the parameter once it sends 1-RTT packets; what it sent before may come later.
+    let is_long = about.datagram.bytes.first().is_some_and(|first| first & LONG_HEADER_FORM != 0);
+    if size <= most || about.sender == Side::Client && is_long {
         return Ok(None);
     }
     Broken::new(format!("a datagram of {size} bytes"), format!("at most {most}, the peer's max_udp_payload_size"))

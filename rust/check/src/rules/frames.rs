@@ -240,18 +240,21 @@ fn path_response(about: &About<'_>, _: &Opened<'_>, held: &Held<'_>) -> Checked 
 
 fn response_twice(about: &About<'_>, _: &Opened<'_>, held: &Held<'_>) -> Checked {
     let Frame::PathResponse(data) = held.frame else { return Ok(None) };
-    if !about.own_half().responses.contains(data) {
+    if !about.own_half().responses.contains_key(data) {
         return Ok(None);
     }
     let seen = format!("a second PATH_RESPONSE with the data {data:016x}");
-    Broken::new(seen, "only one").in_payload(held.range.start).if_still(Claim::AnswerAgain).found()
+    Broken::new(seen, "only one").in_payload(held.range.start).if_still(Claim::AnswerAgain(*data)).found()
 }
 
-// A client may be behind a NAT that changes its port between both.
+// A client may be behind a NAT that changes its port between both. On a host that is a NAT each packet is captured twice,
+// with both addresses.
 fn response_path(about: &About<'_>, _: &Opened<'_>, held: &Held<'_>) -> Checked {
     let Frame::PathResponse(data) = held.frame else { return Ok(None) };
-    let challenge = about.peer_half().challenges.get(data).filter(|_| about.sender == Side::Server);
-    let Some(path) = challenge.filter(|path| path.from != about.datagram.to) else { return Ok(None) };
+    let (to, is_server) = (about.datagram.to, about.sender == Side::Server);
+    let has_copies = about.history.peer(to).is_some_and(|peer| !peer.is_own);
+    let challenge = about.peer_half().challenges.get(data).filter(|path| is_server && !path.has_others && !has_copies);
+    let Some(path) = challenge.filter(|path| path.from != to) else { return Ok(None) };
     Broken::new(format!("a PATH_RESPONSE to {}", about.datagram.to), format!("one to {}", path.from))
         .in_payload(held.range.start)
         .found()

@@ -10,6 +10,7 @@ use quic_wire::datagram::HeaderKind;
 use quic_wire::frame::Frame;
 use quic_wire::ids::SpaceId;
 use quic_wire_capture::opened::Opened;
+use std::ops::RangeInclusive;
 
 const SECOND: u64 = 1_000_000_000;
 
@@ -121,7 +122,7 @@ fn early_update(about: &About<'_>, opened: &Opened<'_>) -> Checked {
 fn second_update(about: &About<'_>, opened: &Opened<'_>) -> Checked {
     let (updates, phase) = (opened.updates(), about.own_half().phase);
     let is_next = |phase: &Phase| updates > phase.updates && about.peer_half().updates() < updates;
-    let Some(Phase { updates: current, first, since }) = phase.filter(is_next) else { return Ok(None) };
+    let Some(Phase { updates: current, first, since, .. }) = phase.filter(is_next) else { return Ok(None) };
     let acknowledged = about.end().acknowledged(SpaceId::Data);
     if acknowledged.is_some_and(|largest| largest >= since) {
         return Ok(None);
@@ -137,10 +138,15 @@ fn update_answer(about: &About<'_>, opened: &Opened<'_>, held: &Held<'_>) -> Che
     let Frame::Ack(ack) = held.frame else { return Ok(None) };
     let newer = about.peer_half().phase.filter(|phase| phase.updates > opened.updates());
     let Some(phase) = newer.filter(|_| opened.kind() == HeaderKind::Short) else { return Ok(None) };
-    if !ack.iter().any(|range| range.contains(&phase.first)) {
-        return Ok(None);
-    }
-    Broken::new(format!("older keys than those of packet {}, which it acknowledges", phase.first), "the new keys")
+    // Later ones have no older keys, unless the peer breaks `old-keys`.
+    let seen = &about.peer_half().seen[SpaceId::Data as usize];
+    let is_new = |number: u64| number > phase.first && !phase.is_mixed && seen.contains(number);
+    let newest = |range: RangeInclusive<u64>| match range.contains(&phase.first) {
+        true => Some(phase.first),
+        false => Some(*range.end()).filter(|number| is_new(*number)),
+    };
+    let Some(number) = ack.iter().find_map(newest) else { return Ok(None) };
+    Broken::new(format!("older keys than those of packet {number}, which it acknowledges"), "the new keys")
         .in_payload(held.range.start)
         .found()
 }

@@ -2,9 +2,10 @@
 
 use crate::about::{About, id_text};
 use crate::claim::{Claim, GRACE, is_issued};
-use crate::history::Token;
+use crate::history::{Retry, Token};
 use crate::rule::{Broken, Check, Checked, History, Need, Rule};
 use quic_wire::datagram::{HeaderKind, PacketRef};
+use quic_wire::frame::{Frame, Iter};
 use quic_wire::ids::SpaceId;
 use quic_wire::{ConnectionId, Side};
 use quic_wire_capture::end::Sent;
@@ -82,7 +83,7 @@ pub(super) static RULES: &[Rule] = &[
         "After a Retry all Initial packets of the client have the Retry's token.",
         Check::Packet(initial_token),
     )
-    .with(History::Before, &[Need::Begin]),
+    .with(History::Before, &[Need::Begin, Need::Time]),
     Rule::must(
         "token-kept",
         "8.1.3",
@@ -197,7 +198,7 @@ fn other_source(about: &About<'_>, opened: &Opened<'_>) -> Option<Broken> {
 }
 
 fn is_after_retry(about: &About<'_>) -> bool {
-    about.sender == Side::Client && about.connection.retry_id().is_some()
+    about.sender == Side::Client && about.history.is_retried
 }
 
 fn source_id(about: &About<'_>, opened: &Opened<'_>) -> Checked {
@@ -212,7 +213,7 @@ fn source_after_retry(about: &About<'_>, opened: &Opened<'_>) -> Checked {
 fn number_reuse(about: &About<'_>, opened: &Opened<'_>, before: &Sent) -> Checked {
     let version = opened.packet().header().version();
     let is_anew = opened.kind() == HeaderKind::Initial && version != about.connection.version();
-    if is_anew || opened.tag() == before.tag {
+    if is_anew || opened.tag() == before.tag || is_other_close(about, opened) {
         return Ok(None);
     }
     let seen = format!("packet number {} again, with other contents than in record {}", opened.number(), before.record);
@@ -221,10 +222,19 @@ fn number_reuse(about: &About<'_>, opened: &Opened<'_>, before: &Sent) -> Checke
     if is_after_retry { broken.by("17.2.5.3").found() } else { broken.found() }
 }
 
-/// Whether a client sends a packet to another id than its first one, as it does after a Retry.
+// A server that keeps no state closes each time with the same number, from another id.
+fn is_other_close(about: &About<'_>, opened: &Opened<'_>) -> bool {
+    let first = about.own_half().sources.first().filter(|_| about.sender == Side::Server);
+    let is_other = first.is_some_and(|first| **first != *opened.packet().src_cid());
+    let mut frames = Iter::new(opened.payload()).into_iter().flatten().map_while(Result::ok);
+    is_other && opened.kind() == HeaderKind::Initial && frames.any(|frame| matches!(frame, Frame::Close(_)))
+}
+
+/// Whether a client sends a packet to another id than its first one after a Retry that it took: one to that id shows it.
 pub(super) fn is_to_retry(about: &About<'_>, opened: &Opened<'_>) -> bool {
-    let first = about.connection.first_dcid();
-    about.sender == Side::Client && about.history.retry.is_some() && *opened.packet().dst_cid() != **first
+    let (first, to) = (about.connection.first_dcid(), opened.packet().dst_cid());
+    let retry = about.history.retry.filter(|_| about.sender == Side::Client && *to != **first);
+    retry.is_some_and(|retry| about.history.is_retried || *to == *retry.id)
 }
 
 fn number_length(about: &About<'_>, opened: &Opened<'_>) -> Checked {
@@ -283,7 +293,12 @@ fn token_at(opened: &Opened<'_>) -> usize {
 fn initial_token(about: &About<'_>, opened: &Opened<'_>) -> Checked {
     let retry = about.history.retry.filter(|_| opened.kind() == HeaderKind::Initial && is_to_retry(about, opened));
     let given = Token::of(opened.packet().token());
-    let Some(token) = retry.map(|retry| retry.token).filter(|token| *token != given) else { return Ok(None) };
+    let Some(Retry { token, has_other_token, .. }) = retry.filter(|retry| retry.token != given) else {
+        return Ok(None);
+    };
+    if has_other_token {
+        return Err(Need::Time);
+    }
     let seen = if given.len == 0 { "no token".into() } else { format!("another token, of {} bytes", given.len) };
     Broken::new(seen, format!("the token of the Retry, {} bytes", token.len)).at(token_at(opened)).found()
 }

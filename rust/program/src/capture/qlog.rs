@@ -135,7 +135,8 @@ impl<T: Traces> Qlog<T> {
         let Some(trace) = self.traces.get_mut(&number) else { return };
         self.waiting = self.waiting.saturating_sub(trace.text.len());
         self.to.write(number, &trace.text, !std::mem::replace(&mut trace.is_there, true));
-        trace.text.clear();
+        // Of many traces each would keep its room.
+        trace.text = String::new();
     }
 
     fn closed(&mut self, connection: &Connection, time: u64, side: Side, said: &Said) {
@@ -389,6 +390,20 @@ fn unprotected(object: &mut Object<'_>, field: Field<'_>, why: Unopened) {
 #[cfg(test)]
 mod tests {
     use super::*;
+
+    struct Nowhere;
+
+    impl Traces for Nowhere {
+        fn write(&mut self, _: usize, _: &str, _: bool) {}
+    }
+
+    #[test]
+    fn traces_that_are_written_take_no_room() {
+        let mut qlog = Qlog::new(Nowhere, "");
+        qlog.traces.insert(7, Trace { is_there: false, text: "x".repeat(MOST_OF_TRACE) });
+        qlog.write(7);
+        assert_eq!(qlog.traces[&7].text.capacity(), 0);
+    }
 
     #[test]
     fn milliseconds() {

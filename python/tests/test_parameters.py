@@ -253,7 +253,7 @@ class Parameters(unittest.TestCase):
                 finalized.append(self)
 
         made = Mine(initial_max_data=5)
-        self.assertEqual((repr(made), finalized), ("TransportParameters(initial_max_data=5)", []))
+        self.assertEqual((repr(made), len(finalized)), ("TransportParameters(initial_max_data=5)", 0))
 
 
 class Sets(unittest.TestCase):

@@ -15,9 +15,11 @@ import pathlib
 import shutil
 import sys
 import sysconfig
+import tempfile
 
 from setuptools import Extension, setup
 from setuptools.command.build_ext import build_ext
+from setuptools.errors import CompileError
 
 # That of setuptools, which therefore comes first.
 from distutils.command.build_scripts import build_scripts  # isort: skip
@@ -80,6 +82,18 @@ class CopyPrograms(build_scripts):
         return []
 
 
+def does_compile(compiler, folders):
+    """Whether a compiler finds what it needs itself, such as the headers of the C library."""
+    with tempfile.TemporaryDirectory() as folder:
+        file = pathlib.Path(folder) / "probe.c"
+        file.write_text("#include <Python.h>\n#include <stdlib.h>\n")
+        try:
+            compiler.compile([str(file)], output_dir=folder, include_dirs=folders)
+        except CompileError:
+            return False
+    return True
+
+
 def lacking(compiler, folders):
     """What a machine lacks to build the module, and how to get it; None if nothing."""
     if not any((pathlib.Path(folder) / "Python.h").is_file() for folder in folders):
@@ -87,6 +101,11 @@ def lacking(compiler, folders):
     command = getattr(compiler, "compiler_so", None)
     if command and not shutil.which(command[0]):
         return f"the C compiler {command[0]} isn't on the path: install one (Debian's gcc and libc6-dev; Fedora: gcc)"
+    if not does_compile(compiler, folders):
+        return (
+            "the C compiler can't compile a file that includes Python.h and stdlib.h: install the headers of the C "
+            "library (Debian's libc6-dev; Fedora: glibc-devel)"
+        )
     return None
 
 

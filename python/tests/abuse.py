@@ -133,7 +133,7 @@ def chosen(chance, signature):
     pool, names = values(), list(signature.parameters) if signature else []
     count = chance.choice([len(names), chance.randrange(len(names) + 2)])
     args = [chance.choice(pool) for _ in range(chance.randrange(count + 1))]
-    by_name = chance.sample([*names, "other"], chance.randrange(min(len(names), 3) + 1))
+    by_name = chance.sample([*names, "other", 7], chance.randrange(min(len(names), 3) + 1))
     return args, {name: chance.choice(pool) for name in by_name}
 
 
@@ -265,8 +265,10 @@ def read_and_show(payload):
 
 
 def try_threads(chance, count):
-    """Threads that read what others change, and share iterators and sets."""
+    """Threads that read what others change, and share iterators, sets and frames."""
     payload, shared, numbers = bytearray(PAYLOAD), q.frames(b"\x01" * count), q.RangeSet()
+    lent = bytearray(PAYLOAD)
+    frames = q.read_frames(lent)
     found, seeds = [], [chance.random() for _ in range(4)]
 
     def scribble(seed):
@@ -279,6 +281,8 @@ def try_threads(chance, count):
         try:
             for _ in range(count // 100):
                 read_and_show(payload)
+                for frame in frames:
+                    repr(frame), frame.encode(), hash(frame), getattr(frame, "data", None)
             for frame in shared:
                 found.append(frame.begin)
                 numbers.insert(own.randrange(1000), own.randrange(1000))
@@ -297,6 +301,11 @@ def try_threads(chance, count):
         thread.join()
     if sorted(found) != list(range(count)):
         fault("threads share the frames of an iterator", len(found), count)
+    frames.clear()
+    try:
+        lent.append(0)
+    except BufferError as error:
+        fault("threads share frames, and their buffer stays", error)
     return 6 * count
 
 

@@ -40,6 +40,17 @@ class Examples(unittest.TestCase):
         )
         self.assertNotIn(client.key.hex(), repr(client))
 
+    def test_numbers_are_no_bytes(self):
+        client, _ = ciphers.initial_keys(q.Version.V1, DCID)
+        calls = [
+            lambda: ciphers.initial_keys(q.Version.V1, 8),
+            lambda: seal_packet(q.PacketType.INITIAL, 5, client),
+            lambda: ciphers.retry_integrity_tag(q.Version.V1, DCID, 5),
+        ]
+        for call in calls:
+            with self.assertRaises(TypeError):
+                call()
+
     # Appendix A.2: the header, the mask and the ends of the packet.
     def test_a_client_initial_is_sealed_and_opened(self):
         client, _ = ciphers.initial_keys(q.Version.V1, DCID)

@@ -6,7 +6,7 @@ import pickle
 import unittest
 
 import quic_wire as q
-from quic_wire import capture, pcap, protection
+from quic_wire import _fields, capture, pcap, protection
 
 
 def rejected(call, *args, **keywords):
@@ -243,6 +243,11 @@ class Errors(unittest.TestCase):
         self.assertIsInstance(error, ValueError)
         for other in (copy.copy(error), pickle.loads(pickle.dumps(error))):
             self.assertEqual((str(other), other.frame_type), (str(error), 0x10))
+
+    def test_a_frame_that_is_valid_by_now_has_its_type_at_fault(self):
+        # Between reading and the message another thread may change the bytes: here to a PING at 3.
+        read = _fields.Read(1, [(3, 4, 0x01)], 4, 0, 0)
+        self.assertEqual(_fields.in_frame(read), (("Type", 3), None))
 
     def test_codes_have_names(self):
         self.assertEqual(rejected(q.read_frames, b"").code, q.Code.PROTOCOL_VIOLATION)

@@ -143,6 +143,7 @@ class Parameters(unittest.TestCase):
         token = bytes(16)
         address = type("Address", (ipaddress.IPv4Address,), {"packed": bytes(500)})("192.0.2.1")
         forged = q.PreferredAddress(b"a", token, v4=(address, 443))
+        no_port = q.PreferredAddress(b"a", token, v4=(ipaddress.IPv4Address("192.0.2.1"),))
         as_text = q.PreferredAddress(b"a", token, v6=("2001:db8::1", 443))
         rows = [
             (ValueError, lambda: q.TransportParameters(max_udp_payload_size=1199).write(q.Side.CLIENT)),
@@ -158,6 +159,9 @@ class Parameters(unittest.TestCase):
             (ValueError, lambda: q.TransportParameters(initial_source_connection_id=bytes(21))),
             (ValueError, lambda: q.TransportParameters(preferred_address=q.PreferredAddress(b"", token))),
             (TypeError, lambda: q.TransportParameters(preferred_address=1)),
+            (TypeError, lambda: q.TransportParameters(preferred_address=q.PreferredAddress(5, token))),
+            (TypeError, lambda: q.TransportParameters(preferred_address=q.PreferredAddress(b"a", 16))),
+            (TypeError, lambda: q.TransportParameters(preferred_address=no_port)),
             (TypeError, lambda: q.TransportParameters(preferred_address=as_text)),
             (ValueError, lambda: q.TransportParameters(preferred_address=forged)),
             (ValueError, lambda: q.TransportParameters.read(1 << 32, b"")),
@@ -240,6 +244,16 @@ class Parameters(unittest.TestCase):
         read = Mine.read(q.Side.CLIENT, b"\x04\x01\x05")
         read.note = "mine"
         self.assertEqual((type(read), read.initial_max_data, read.note), (Mine, 5, "mine"))
+
+    def test_a_text_makes_no_object_of_ones_own_class(self):
+        finalized = []
+
+        class Mine(q.TransportParameters):
+            def __del__(self):
+                finalized.append(self)
+
+        made = Mine(initial_max_data=5)
+        self.assertEqual((repr(made), len(finalized)), ("TransportParameters(initial_max_data=5)", 0))
 
 
 class Sets(unittest.TestCase):

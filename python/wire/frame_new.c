@@ -57,7 +57,8 @@ static int set_count(maker *m, const PyGetSetDef *field, PyObject *value) {
   if (wire_number(value, field->name, &count) < 0)
     return -1;
   if (count == 0 || count > PY_SSIZE_T_MAX)
-    return wire_fail(PyExc_ValueError, "count must be 1 or more");
+    return wire_fail(PyExc_ValueError, "count must be from 1 to %zd",
+                     PY_SSIZE_T_MAX);
   zeros =
       PyObject_CallFunction((PyObject *)&PyBytes_Type, "n", (Py_ssize_t)count);
   m->made->f.end = (size_t)count;
@@ -116,6 +117,9 @@ static int set_fields(maker *m, const wire_kind *kind, PyObject *args,
     PyObject *by_name =
         keywords ? PyDict_GetItemWithError(keywords, names[i]) : NULL;
     PyObject *value = i < len ? PyTuple_GetItem(args, i) : by_name;
+    /* A name that isn't a plain str is compared by its own code. */
+    if (keywords && !by_name && PyErr_Occurred())
+      return -1;
     if (i < len && by_name)
       return wire_fail(PyExc_TypeError, "%s: %s is given twice", kind->name,
                        name);
@@ -130,20 +134,36 @@ static int set_fields(maker *m, const wire_kind *kind, PyObject *args,
                    i);
 }
 
-/* The id with its token after it. */
+enum { RESET_TOKEN = 16 };
+
+/* The id with its token after it, in new bytes; NULL with an exception. */
+static PyObject *id_and_token(const wire_bytes *id, const wire_bytes *token) {
+  uint8_t *at = NULL;
+  PyObject *both = NULL;
+  if (token->len != RESET_TOKEN)
+    PyErr_SetString(PyExc_ValueError, "reset_token must have 16 bytes");
+  else
+    both = wire_new_bytes(id->len + token->len, &at);
+  if (both) {
+    memcpy(at, id->at, id->len);
+    memcpy(at + id->len, token->at, token->len);
+  }
+  return both;
+}
+
 static int finish_new_connection_id(maker *m) {
-  PyObject *id, *token = NULL, *both = NULL;
+  PyObject *both = NULL;
+  wire_bytes id, token;
   if (!m->token || !m->made->owner)
     return wire_fail(PyExc_TypeError,
                      "NewConnectionId needs connection_id and reset_token");
-  id = PyBytes_FromObject(m->made->owner);
-  token = id ? PyBytes_FromObject(m->token) : NULL;
-  if (token && PyBytes_Size(token) != 16)
-    PyErr_SetString(PyExc_ValueError, "reset_token must have 16 bytes");
-  else if (token)
-    both = PySequence_Concat(id, token);
-  Py_XDECREF(id);
-  Py_XDECREF(token);
+  if (wire_acquire(m->made->owner, &id) < 0)
+    return -1;
+  if (wire_acquire(m->token, &token) == 0) {
+    both = id_and_token(&id, &token);
+    wire_release(&token);
+  }
+  wire_release(&id);
   return both ? set_owner(m, both) : -1;
 }
 

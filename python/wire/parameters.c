@@ -237,20 +237,27 @@ static parameters_object *by_default(PyTypeObject *type) {
   return o;
 }
 
+/* The row of a name, or PARAMETERS. A dictionary may not find a name that isn't
+ * a plain str, or that isn't a str at all. */
+static Py_ssize_t row_of(const wire_state *state, PyObject *name) {
+  Py_ssize_t i = PyUnicode_Check(name) ? 0 : PARAMETERS;
+  while (i < PARAMETERS &&
+         PyUnicode_Compare(name, state->parameter_names[i]) != 0)
+    i++;
+  return i;
+}
+
 /* Raises TypeError for the first name that no parameter has. */
 static void raise_unknown(const wire_state *state, PyObject *keywords) {
   PyObject *name, *value;
-  Py_ssize_t at = 0, i;
-  while (PyDict_Next(keywords, &at, &name, &value)) {
-    for (i = 0; i < PARAMETERS; i++)
-      if (PyUnicode_Compare(name, state->parameter_names[i]) == 0)
-        break;
-    if (i == PARAMETERS) {
-      PyErr_Format(PyExc_TypeError, "no transport parameter is called %U",
+  Py_ssize_t at = 0;
+  while (PyDict_Next(keywords, &at, &name, &value))
+    if (row_of(state, name) == PARAMETERS) {
+      PyErr_Format(PyExc_TypeError, "no transport parameter is called %S",
                    name);
       return;
     }
-  }
+  PyErr_SetString(PyExc_TypeError, "names of parameters must be plain str");
 }
 
 static PyObject *parameters_new(PyTypeObject *type, PyObject *args,
@@ -266,6 +273,8 @@ static PyObject *parameters_new(PyTypeObject *type, PyObject *args,
   for (i = 0; o && keywords && i < PARAMETERS; i++) {
     PyObject *value =
         PyDict_GetItemWithError(keywords, state->parameter_names[i]);
+    if (!value && PyErr_Occurred())
+      Py_CLEAR(o);
     if (!value)
       continue;
     named++;
@@ -300,8 +309,11 @@ static int is_changed(PyObject *usual, const parameter_field *field,
 /* Fields by their names. */
 static PyObject *dict_of(PyObject *self, choice which) {
   const wire_state *state = state_of(Py_TYPE(self));
+  /* Not of a class that Python derived, which may have a finalizer. */
   PyObject *usual =
-      which == CHANGED ? (PyObject *)by_default(Py_TYPE(self)) : NULL;
+      state && which == CHANGED
+          ? (PyObject *)by_default((PyTypeObject *)state->parameters)
+          : NULL;
   PyObject *out = state && (usual || which != CHANGED) ? PyDict_New() : NULL;
   Py_ssize_t i;
   for (i = 0; out && i < PARAMETERS; i++) {

@@ -89,8 +89,9 @@ def of_frame(read: Read) -> list[Field]:
 
 def in_frame(read: Read) -> tuple[Place, Optional[str]]:
     """The field at fault in a frame, and what is wrong with its value, if it is there."""
-    if not read.spans:
-        return Place(FRAME_TYPE_FIELD, read.end), None
+    if not read.spans or read.result >= 0:
+        # Bytes that another thread changed may be a frame by now.
+        return Place(FRAME_TYPE_FIELD, read.spans[0][0] if read.spans else read.end), None
     fields = FRAMES[read.spans[0][2]].fields
     row = fields[len(read.spans)]
     place = _place(row, read)

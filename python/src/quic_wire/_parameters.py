@@ -5,12 +5,12 @@ from __future__ import annotations
 from collections.abc import Iterator
 from typing import NamedTuple, Optional
 
-from ._formats import PARAMETERS
+from ._formats import PARAMETERS, Parameter
 from ._wire import _entry_at, varint_at, varint_len
 from .checks import Checks
 
 SERVER = 1
-KNOWN = {number: known for number, known in PARAMETERS.items() if known.kind != "skipped"}
+KNOWN: dict[int, Parameter] = {number: known for number, known in PARAMETERS.items() if known.kind != "skipped"}
 # Those that a client must not send.
 OF_SERVERS = [number for number, known in KNOWN.items() if "client" not in known.senders]
 _LONG = "its integer isn't in its shortest encoding, which RFC 9000, section 16, allows and quinn-proto rejects"

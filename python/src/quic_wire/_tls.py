@@ -4,34 +4,51 @@
 
 from __future__ import annotations
 
+import heapq
 from typing import Optional
 
 from ._wire import Crypto
 
 _CLIENT_HELLO, _SERVER_HELLO = 1, 2
 _RANDOM_AT, _RANDOM_LEN = 6, 32  # after the type, the length and the version
-_MOST = 1 << 16  # bytes of a handshake that are kept
+_MOST = 1 << 16  # bytes of a handshake that are kept, and of what arrives before its turn
 
 
 class Handshake:
     """The messages that a side sends in Initial packets, put together as far as they have arrived."""
 
-    __slots__ = ("_data", "_later")
+    __slots__ = ("_data", "_kept", "_later", "_offsets")
 
     def __init__(self) -> None:
         self._data = bytearray()
-        self._later: dict[int, bytes] = {}
+        self._later: dict[int, bytes] = {}  # what arrived before its turn, by its offset
+        self._offsets: list[int] = []  # a heap of these offsets
+        self._kept = 0  # how many bytes these are
 
     def take(self, frame: Crypto) -> None:
-        """Takes the data of a frame, in any order."""
-        if frame.offset + len(frame.data) > _MOST:
+        """Takes the data of a frame, in any order. Of bytes that arrive twice the first ones count."""
+        offset, data = frame.offset, bytes(frame.data)
+        if offset + len(data) > _MOST:
             return
-        before = self._later.get(frame.offset, b"")
-        self._later[frame.offset] = max(before, bytes(frame.data), key=len)
-        for offset in sorted(self._later):
-            if offset > len(self._data):
-                return
-            self._data += self._later.pop(offset)[len(self._data) - offset :]
+        if offset > len(self._data):
+            self._keep(offset, data)
+            return
+        self._data += data[len(self._data) - offset :]
+        while self._offsets and self._offsets[0] <= len(self._data):
+            offset = heapq.heappop(self._offsets)
+            data = self._later.pop(offset)
+            self._kept -= len(data)
+            self._data += data[len(self._data) - offset :]
+
+    def _keep(self, offset: int, data: bytes) -> None:
+        """Keeps data for later, if they are more than those from there on, and if not too many are kept."""
+        more = len(data) - len(self._later.get(offset, b""))
+        if more <= 0 or self._kept + more > _MOST:
+            return
+        if offset not in self._later:
+            heapq.heappush(self._offsets, offset)
+        self._later[offset] = data
+        self._kept += more
 
     def _message(self, kind: int) -> Optional[bytes]:
         """The first message, if it is of this kind."""

@@ -122,7 +122,7 @@ def initial_keys(version: int, dcid: Buffer) -> tuple[PacketKeys, PacketKeys]:
     They are made from the Destination Connection ID of the client's first Initial packet (RFC 9001, section 5.2;
     RFC 9369, section 3.3.1).
     """
-    initial = hmac.new(_SALTS[Version(version)], bytes(dcid), hashlib.sha256).digest()
+    initial = hmac.new(_SALTS[Version(version)], bytes(memoryview(dcid)), hashlib.sha256).digest()
     secrets = (expand_label(initial, f"{side} in", 32, "sha256") for side in ("client", "server"))
     client, server = (PacketKeys.of(secret, _INITIAL_SUITE, version) for secret in secrets)
     return client, server
@@ -131,5 +131,6 @@ def initial_keys(version: int, dcid: Buffer) -> tuple[PacketKeys, PacketKeys]:
 def retry_integrity_tag(version: int, original_dcid: Buffer, retry: Buffer) -> bytes:
     """The tag of a Retry packet, which is passed without one (RFC 9001, section 5.8)."""
     key, nonce = (bytes.fromhex(text) for text in _RETRY_KEYS[Version(version)])
-    pseudo = bytes([len(original_dcid)]) + bytes(original_dcid) + bytes(retry)
+    original = bytes(memoryview(original_dcid))
+    pseudo = bytes([len(original)]) + original + bytes(memoryview(retry))
     return AESGCM(key).encrypt(nonce, b"", pseudo)

@@ -209,9 +209,9 @@ def _address_parts(a: PreferredAddress) -> tuple[bytes, bytes, Optional[bytes], 
     if not isinstance(a, PreferredAddress):
         raise TypeError("preferred_address must be a PreferredAddress")
     for name, address, kind in (("v4", a.v4, ipaddress.IPv4Address), ("v6", a.v6, ipaddress.IPv6Address)):
-        if address and not isinstance(address[0], kind):
+        if address and not (len(address) == 2 and isinstance(address[0], kind)):
             raise TypeError(f"{name} of a PreferredAddress must be an ipaddress.{kind.__name__} and a port")
-    cid, token = bytes(a.connection_id), bytes(a.reset_token)
+    cid, token = bytes(memoryview(a.connection_id)), bytes(memoryview(a.reset_token))
     if not 1 <= len(cid) <= _MAX_CID_LEN or len(token) != _RESET_TOKEN_LEN:
         raise ValueError("a preferred address has an id of 1 to 20 bytes and a token of 16")
     v4, v4_port = (a.v4[0].packed, a.v4[1]) if a.v4 else (None, 0)

@@ -69,15 +69,19 @@ _UDP = 17
 _PCAP_ORDERS = {b"\xd4\xc3\xb2\xa1": ("<", 1e-6), b"\x4d\x3c\xb2\xa1": ("<", 1e-9),
                 b"\xa1\xb2\xc3\xd4": (">", 1e-6), b"\xa1\xb2\x3c\x4d": (">", 1e-9)}  # fmt: skip
 _SECTION, _INTERFACE, _SIMPLE, _ENHANCED = 0x0A0D0D0A, 1, 3, 6
+_PIECE = 1 << 20  # bytes
 _TIME_RESOLUTION = 9  # an option of an interface
 
 
 def _exactly(file: BinaryIO, count: int) -> Optional[bytes]:
-    """The next bytes, or None at the end of the file."""
-    data = file.read(count)
-    if data and len(data) < count:
+    """The next bytes, or None at the end of the file. It asks for a piece at a time, as a file may promise any count."""
+    pieces: list[bytes] = []
+    while count and (piece := file.read(min(count, _PIECE))):
+        pieces.append(piece)
+        count -= len(piece)
+    if pieces and count:
         raise CaptureError("the file is cut off")
-    return data or None
+    return b"".join(pieces) or None
 
 
 def _pcap(file: BinaryIO, magic: bytes) -> Iterator[_Record]:

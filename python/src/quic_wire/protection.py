@@ -125,7 +125,7 @@ def seal_packet(
         spin=spin, key_phase=key_phase, fixed_bit=fixed_bit,
     )  # fmt: skip
     number_at = len(header) - number_len
-    plain = bytes(payload)
+    plain = bytes(memoryview(payload))
     plain += bytes(max(0, _SAMPLE_AFTER + _SAMPLE_LEN - number_len - keys.tag_len - len(plain)))
     packet = bytearray(header + bytes(len(plain) + keys.tag_len))
     if packet_type != PacketType.ONE_RTT:

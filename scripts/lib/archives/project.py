@@ -1,5 +1,6 @@
-"""project.py TOP COPY: copies to COPY what the static libraries of the repository TOP stand on. Each of them becomes a
-program there, NAME_p, that calls each of its exports once, with zeros, so that an unproved run of it holds them all."""
+"""project.py TOP COPY: copies to COPY the static libraries of the repository TOP and what they stand on, with a program,
+`exports`, that calls each of their exports once, with zeros, so that an unproved run of it holds them all. It prints
+the names of the exports, a line each."""
 import re
 import shutil
 import sys
@@ -42,19 +43,18 @@ def zero(kind, structs):
     return structs.get(kind) or {"bool": "false"}.get(kind, f"0{kind}")
 
 
-def structs_of(name, folder, is_own):
+def structs_of(name, folder):
     """Each struct of a crate's public module of words or fields, as a zero with its path."""
     found = {}
     for module in "words", "field":
         file = folder / "src" / f"{module}.rt"
         for struct, fields in STRUCT.findall(file.read_text()) if file.exists() else ():
-            path = f"{module}::{struct}" if is_own else f"{name}::{module}::{struct}"
             values = (f"{field}: {zero(kind, {})}" for field, kind in FIELD.findall(fields))
-            found[struct] = f"{path} {{ {', '.join(values)} }}"
+            found[struct] = f"{name}::{module}::{struct} {{ {', '.join(values)} }}"
     return found
 
 
-def arguments(declared, structs, first):
+def arguments(declared, structs):
     """Declarations of the variables that a call borrows, and its arguments."""
     lets, words = [], []
     for number, parameter in enumerate(filter(None, re.split(r",\s*(?![^\[]*\])", declared.strip().rstrip(",")))):
@@ -62,55 +62,58 @@ def arguments(declared, structs, first):
         borrowed = re.match(r"&(mut )?(.*)", kind, re.S)
         if borrowed:
             is_mutable = borrowed[1] or ""
-            lets.append(f"let {is_mutable}v{first + number} = {zero(borrowed[2], structs)};")
-            words.append(f"&{is_mutable}v{first + number}")
+            lets.append(f"let {is_mutable}v{number} = {zero(borrowed[2], structs)};")
+            words.append(f"&{is_mutable}v{number}")
         else:
             words.append("a" if kind == "Global" else zero(kind, structs))
     return lets, words
 
 
-def main_of(folder, structs):
-    """The program: its last line prints what the calls answered."""
-    calls, count = [], 0
+def calls_of(name, folder, structs):
+    """The lines of a program that call each export of a library, and the names of these."""
+    lines, names = [], []
     for file in sorted((folder / "src").glob("*.rt")):
-        for name, declared, answer in EXPORT.findall(file.read_text()):
-            lets, words = arguments(declared, structs, count)
-            count += len(words)
-            path = name if file.stem == "lib" else f"{file.stem}::{name}"
-            calls.append((lets, f"{path}({', '.join(words)})", answer))
-    answers = {answer for _, _, answer in calls}
-    kind = answers.pop() if len(answers) == 1 else "u64"
-    lines = []
-    for lets, call, answer in calls:
-        lines += [*lets, f"s ^= {call}{'' if answer == kind else f' as {kind}'};"]
-    body = "\n".join(f"    {line}" for line in lines)
-    return f'\nfn main(rt: HostRuntime) {{\n    let a = rt.alloc();\n    let mut s: {kind} = 0;\n{body}\n' \
-        '    let _ = println!(rt; "{s}");\n}\n'
+        for export, declared, _ in EXPORT.findall(file.read_text()):
+            lets, words = arguments(declared, structs)
+            path = name if file.stem == "lib" else f"{name}::{file.stem}"
+            lines.append("".join(f"{it} " for it in ("{", *lets)) + f"s ^= {path}::{export}({', '.join(words)}) as u64; }}")
+            names.append(export)
+    return lines, names
+
+
+def opened(root):
+    """The text of a library whose modules other crates see, since the program calls what is in them."""
+    return re.sub(r"^(pub\(crate\) )?mod ", "pub mod ", root, flags=re.M)
 
 
 def main():
     top, copy = map(Path, sys.argv[1:])
     uses, static = crates(top)
-    listed = []
+    needed, lines, exports = below(static, uses), [], []
     shutil.copytree(top / "crates", copy / "crates", ignore=shutil.ignore_patterns("must-fail", "data", "more-edits"))
     shutil.copy(top / "HANDLES", copy)
-    for name in sorted(below(static, uses)):
-        if name not in static:
-            listed.append(f"{name}: {' '.join(uses[name])}\n")
-    for name in static:
-        folder = (copy / "crates" / name).rename(copy / "crates" / f"{name}_p")
-        structs = {}
-        for used in uses[name]:
-            structs |= structs_of(used, copy / "crates" / used, False)
-        structs |= structs_of(name, folder, True)
-        root = re.sub(r"\npub use .*?;", "", (folder / "src" / "lib.rt").read_text(), flags=re.S)
-        (folder / "src" / "main.rt").write_text(root + main_of(folder, structs))
-        (folder / "src" / "lib.rt").unlink()
-        listed.append(f"{name}_p: {' '.join(uses[name])}\n")
     for folder in (copy / "crates").iterdir():
-        if folder.name.removesuffix("_p") not in below(static, uses):
+        if folder.name not in needed:
             shutil.rmtree(folder)
-    (copy / "crates.txt").write_text("".join(listed))
+    for name in static:
+        folder, structs = copy / "crates" / name, {}
+        for used in [*uses[name], name]:
+            structs |= structs_of(used, copy / "crates" / used)
+        root = folder / "src" / "lib.rt"
+        root.write_text(opened(root.read_text()))
+        calls, names = calls_of(name, folder, structs)
+        lines, exports = lines + calls, exports + names
+    program = copy / "crates" / "exports" / "src"
+    program.mkdir(parents=True)
+    body = "\n".join(f"    {line}" for line in lines)
+    (program / "main.rt").write_text(
+        f"fn main(rt: HostRuntime) {{\n    let a = rt.alloc();\n    let mut s: u64 = 0;\n{body}\n"
+        '    let _ = println!(rt; "{s}");\n}\n'
+    )
+    listed = [f"{name}: {' '.join(uses[name])}\n" for name in uses if name in needed]
+    used = sorted({it for name in static for it in (name, *uses[name])})
+    (copy / "crates.txt").write_text("".join([*listed, f"exports: {' '.join(used)}\n"]))
+    print("\n".join(exports))
 
 
 if __name__ == "__main__":

@@ -19,7 +19,7 @@ const MOST_SIZES: usize = 128;
 
 // After how many datagrams of a side that open with no size most others are tried only with that of the last segments
 // and whole: anyone can send them.
-const MOST_IN_VAIN: u32 = 16;
+const MOST_IN_VAIN: u32 = 8;
 const FEW_SIZES: usize = 2;
 
 /// How headers are read: the fixed bit may be clear (RFC 9287).

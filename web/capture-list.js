@@ -39,7 +39,7 @@ export class CaptureList {
     Object.assign(this, { list, filter, note, ask, choose });
     this.forget();
     head.replaceChildren(...COLUMNS.map(([name, title]) => element("span", name, title)));
-    this.rows = new Rows(list, (at) => this.row(at));
+    this.rows = new Rows(list, (at) => this.row(at), 0, () => this.come);
     list.addEventListener("click", (event) => this.click(event.target.closest(".packet-row")));
     list.addEventListener("keydown", (event) => this.key(event));
     filter.addEventListener("input", () => this.filterSoon());
@@ -51,6 +51,8 @@ export class CaptureList {
     this.at = -1;
     // Whether the chosen row hasn't come yet.
     this.isAwaited = false;
+    this.rows?.setCount(0);
+    this.mark();
   }
 
   // Shows this many packets, from the first one on.
@@ -80,9 +82,11 @@ export class CaptureList {
     this.filter.setAttribute("aria-invalid", !isRead);
     this.note.classList.toggle("fault", !isRead);
     this.note.textContent = isRead ? `${shown} shown: ${text}` : text;
-    if (isRead) {
+    // One that can't be read leaves the list as it is, unless that is another capture's.
+    if (isRead || shown !== this.count) {
       [this.at, this.isAwaited] = [-1, false];
       this.show(shown);
+      this.mark();
     }
   }
 
@@ -101,6 +105,15 @@ export class CaptureList {
     if (this.isAwaited) {
       this.chooseRow();
     }
+  }
+
+  // How many of the first rows came.
+  get come() {
+    let pages = 0;
+    while (this.pages.get(pages)) {
+      pages += 1;
+    }
+    return pages * PAGE_ROWS;
   }
 
   // The row at a place of the list, if it came.
@@ -143,7 +156,7 @@ export class CaptureList {
   }
 
   key(event) {
-    const to = this.rows.step(event.key, this.at);
+    const to = event.altKey || event.metaKey ? null : this.rows.step(event.key, this.at);
     if (to === null || this.count === 0) {
       return;
     }
@@ -156,8 +169,17 @@ export class CaptureList {
   select(at) {
     this.at = at;
     this.rows.refresh(true);
-    this.list.setAttribute("aria-activedescendant", `packet-${at}`);
+    this.mark();
     this.chooseRow();
+  }
+
+  // Tells screen readers which row is chosen.
+  mark() {
+    if (this.at < 0) {
+      this.list.removeAttribute("aria-activedescendant");
+    } else {
+      this.list.setAttribute("aria-activedescendant", `packet-${this.at}`);
+    }
   }
 
   // Shows the chosen row, once it is there.
@@ -184,6 +206,7 @@ export class CaptureList {
     this.rows.reveal(at);
     [this.at, this.isAwaited] = [at, false];
     this.rows.refresh(true);
+    this.mark();
     this.choose({ index });
   }
 }

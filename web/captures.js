@@ -1,48 +1,21 @@
 // The page's second door: captures and key logs, which a worker reads, and what is found in them.
 
 import { CaptureList } from "./capture-list.js";
+import { pictureTitle, POINT } from "./chart.js";
 import { addCards, CARDS, moreText, unopenedTexts } from "./connections.js";
 import { DatagramView } from "./datagram.js";
 import { showFindings } from "./findings.js";
+import { sorted } from "./given.js";
 import { helloBoxes } from "./hello.js";
 import { saveBlob, saveText } from "./picture.js";
 import { count } from "./shown.js";
 import { Timeline } from "./timeline.js";
 
-// What files begin with that are captures: pcap in both byte orders, with microseconds or nanoseconds; pcapng; gzip.
-const MAGIC_NUMBERS = ["a1b2c3d4", "d4c3b2a1", "a1b23c4d", "4d3cb2a1", "0a0d0d0a"];
-const COMPRESSED = "1f8b";
-// The beginning of a key log must have a line of a secret.
-const BEGINNING_OF_KEYS = 1 << 20;
-const SECRET_LINE = /^[A-Z][A-Z0-9_]* [0-9a-fA-F]{64} [0-9a-fA-F]+/m;
 const NO_WORKERS = "This browser has no workers, in which captures are read.";
 
+// What a browser says of an error, in a sentence of the page.
+const withoutStop = (text) => text.replace(/\.+$/, "");
 const sizeText = (bytes) => (bytes < 1e6 ? `${(bytes / 1e3).toFixed(1)} kB` : `${(bytes / 1e6).toFixed(1)} MB`);
-
-async function isCapture(file) {
-  const bytes = new Uint8Array(await file.slice(0, 4).arrayBuffer());
-  const front = [...bytes].map((byte) => byte.toString(16).padStart(2, "0")).join("");
-  return MAGIC_NUMBERS.includes(front) || front.startsWith(COMPRESSED);
-}
-
-async function isKeyLog(file) {
-  return SECRET_LINE.test(await file.slice(0, BEGINNING_OF_KEYS).text());
-}
-
-// Sorts files into captures and key logs.
-async function sorted(files) {
-  const [captures, keyLogs] = [[], []];
-  for (const file of files) {
-    if (await isCapture(file)) {
-      captures.push(file);
-    } else if (await isKeyLog(file)) {
-      keyLogs.push(file);
-    } else {
-      throw new Error(`${file.name} is neither a capture (pcap, pcapng, also compressed by gzip) nor a key log`);
-    }
-  }
-  return { captures, keyLogs };
-}
 
 export class Captures {
   // |byId| finds elements; |worker| makes a worker; |libraries| read the bytes that are shown; |columns| says how many
@@ -52,6 +25,8 @@ export class Captures {
     // |run| is the number of the capture that is read: answers about another one are late. |given| are the files that
     // it is read from; |isHeld| says whether the worker can't read files, so that the page reads them for it.
     Object.assign(this, { worker: null, file: null, keyLogs: [], summary: null, run: 0, given: [], isHeld: false });
+    // How often files were given, and which time those were whose capture is shown; why others weren't taken meanwhile.
+    Object.assign(this, { takes: 0, shownTake: 0, refusal: "" });
     const boxes = {
       list: byId("packets"), head: byId("packets-head"), filter: byId("filter"), note: byId("filter-note"),
     };
@@ -89,14 +64,19 @@ export class Captures {
     if (typeof Worker === "undefined") {
       throw new Error(NO_WORKERS);
     }
-    this.worker = this.makeWorker();
-    this.worker.addEventListener("message", ({ data: { type, run, ...message } }) => {
+    const worker = this.makeWorker();
+    this.worker = worker;
+    worker.addEventListener("message", ({ data: { type, run, ...message } }) => {
       if (run === this.run) {
         this.receive(type, message);
       }
     });
-    const failed = ({ message = "the worker doesn’t start" }) => this.failed({ text: message });
-    this.worker.addEventListener("error", failed);
+    worker.addEventListener("error", ({ message }) => {
+      // The next capture gets another one.
+      worker.terminate();
+      this.worker = null;
+      this.failed({ text: message || "the worker doesn’t start" });
+    });
     this.ask("start", { module: this.module });
   }
 
@@ -116,10 +96,16 @@ export class Captures {
     takers[type]();
   }
 
+  // Says how reading goes or how it went, beside why other files weren't taken.
   say(text, isBad = false) {
     const box = this.byId("capture-status");
-    box.classList.toggle("bad", isBad);
-    box.textContent = text;
+    box.classList.toggle("bad", isBad || this.refusal !== "");
+    box.textContent = [this.refusal, text].filter(Boolean).join(" ");
+  }
+
+  // Says again how reading went.
+  sayWhole() {
+    this.say(this.said.text, this.said.isBad);
   }
 
   get state() {
@@ -159,18 +145,23 @@ export class Captures {
 
   // Takes files: a capture, and key logs, which stay for the captures after it.
   async take(files) {
+    this.takes += 1;
+    this.refusal = "";
+    const number = this.takes;
     try {
       const { captures, keyLogs } = await sorted(files);
       const isAgain = ({ name }) => keyLogs.some((log) => log.name === name);
       this.keyLogs = [...this.keyLogs.filter((log) => !isAgain(log)), ...keyLogs];
-      this.file = captures[0] ?? this.file;
-      if (captures.length > 0) {
+      // Files that were given before these may take longer to be sorted.
+      const isShown = captures.length > 0 && number > this.shownTake;
+      if (isShown) {
+        [this.file, this.shownTake] = [captures[0], number];
         this.showFiles(captures);
       }
-      if (this.file) {
-        this.read();
-      } else {
+      if (!this.file) {
         this.say(`${this.keysText()}. Add the capture.`);
+      } else if (isShown || keyLogs.length > 0) {
+        this.read();
       }
     } catch (error) {
       this.rejected(error.message);
@@ -179,7 +170,8 @@ export class Captures {
 
   // Says why files aren't taken. The capture that is there stays.
   rejected(text) {
-    this.say(`Not read: ${text}.`, true);
+    this.refusal = `Not read: ${withoutStop(text)}.`;
+    this.say("");
     if (this.state !== "reading" && this.summary === null) {
       this.state = "failed";
     }
@@ -256,7 +248,7 @@ export class Captures {
     } else if (what.startsWith("save")) {
       this.unsaved(text);
     } else {
-      this.say(`Not read: ${text}.`, true);
+      this.say(`Not read: ${withoutStop(text)}.`, true);
       this.state = what === "open" ? "failed" : this.state;
     }
   }
@@ -269,20 +261,22 @@ export class Captures {
 
   unsaved(why) {
     this.state = "ready";
-    this.say(`Not saved: ${why}.`);
+    this.say(`Not saved: ${withoutStop(why)}.`);
   }
 
   // ---- what was found
 
   ready({ summary, fault, spent, isStopped }) {
     this.summary = summary;
-    this.said = this.wholeText(summary, fault, spent, isStopped);
-    this.say(this.said, fault !== "");
+    this.said = { text: this.wholeText(summary, fault, spent, isStopped), isBad: fault !== "" };
+    this.sayWhole();
     for (const id of ["overview", "found", "table"]) {
       this.byId(id).hidden = summary.packets === 0;
     }
     this.byId("connections").replaceChildren();
     this.streams = new Map();
+    // How many packets of each connection were opened.
+    this.opened = new Map();
     this.cardsShown = 0;
     this.askCards();
     const go = (index) => this.list.goTo(index);
@@ -313,6 +307,7 @@ export class Captures {
       return;
     }
     this.cardsShown += list.length;
+    list.forEach(({ connection, client, server }) => this.opened.set(connection, client.opened + server.opened));
     addCards(this.byId("connections"), list, {
       filter: (number) => this.list.apply(`c:${number}`),
       picture: (number) => this.ask("points", { connection: number }),
@@ -330,18 +325,20 @@ export class Captures {
 
   points({ connection, points }) {
     this.byId("times").hidden = points.length === 0;
-    this.byId("times-title").textContent = `Packet numbers over time, connection ${connection}`;
-    this.pictured = connection;
+    const title = pictureTitle(connection, points.length / POINT, this.opened.get(connection));
+    this.byId("times-title").textContent = `Packet ${title}`;
+    this.pictured = { connection, title };
     this.timeline.show(points);
   }
 
   // Saves the part of the picture that is shown.
   saveTimeline() {
-    const title = `${this.file.name}, connection ${this.pictured}: packet numbers over time`;
-    saveText(this.timeline.file(title), "image/svg+xml", `${this.file.name}.${this.pictured}.svg`);
+    const { connection, title } = this.pictured;
+    saveText(this.timeline.file(`${this.file.name}: ${title}`), "image/svg+xml", `${this.file.name}.${connection}.svg`);
   }
 
   open(index) {
+    this.refusal = "";
     this.ask("detail", { index });
   }
 
@@ -349,7 +346,7 @@ export class Captures {
     this.datagram.show(detail, this.columns());
     this.showStop(this.state === "reading" || this.state === "saving");
     if (this.state === "ready") {
-      this.say(this.said);
+      this.sayWhole();
     }
   }
 
@@ -361,9 +358,14 @@ export class Captures {
     }
   }
 
-  saved({ blob, name }) {
+  // |fault| is why there is less in the file than in the capture.
+  saved({ blob, name, fault }) {
     saveBlob(blob, name);
     this.state = "ready";
-    this.say(this.said);
+    if (fault) {
+      this.say(`${name} has only a part of the capture: ${fault}.`, true);
+    } else {
+      this.sayWhole();
+    }
   }
 }

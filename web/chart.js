@@ -27,6 +27,16 @@ function tickText(value, step) {
   return value.toFixed(Math.max(0, Math.min(9, Math.ceil(-Math.log10(step)))));
 }
 
+// What the picture of a connection is called that has so many points, of so many packets that were opened.
+export function pictureTitle(connection, shown, opened = shown) {
+  const some = shown < opened ? `, ${shown} of ${opened} packets` : "";
+  return `numbers over time, connection ${connection}${some}`;
+}
+
+// Whether a packet is in a view.
+export const isInView = ([begin, end, least, most], time, number) => (
+  time >= begin && time <= end && number >= least && number <= most);
+
 // What is on the axes of a view: times and packet numbers, each with its text.
 export function ticksOf([begin, end, least, most]) {
   const times = ticksBetween(begin, end);
@@ -71,10 +81,9 @@ const square = (x, y, size) => `M${(x - size / 2).toFixed(1)} ${(y - size / 2).t
 // The packets of a view as three paths: the client's, the server's, and those that counted as lost, which come last.
 function dots(points, view, size, colors) {
   const paths = { client: new Set(), server: new Set(), lost: new Set() };
-  const [begin, end, least, most] = view;
   for (let at = 0; at < points.length; at += POINT) {
     const [time, number, side, state] = points.subarray(at, at + 4);
-    if (time >= begin && time <= end && number >= least && number <= most) {
+    if (isInView(view, time, number)) {
       const kind = LOST.includes(state) ? "lost" : side === 0 ? "client" : "server";
       const [x, y] = placeIn(view, size, time, number);
       // Packets at the same place are drawn once.

@@ -18,8 +18,17 @@ export function unopenedTexts(unopened) {
     .map(({ reason, count: one }) => `${one} not opened: ${reason}`);
 }
 
+// JSON, in which integers may be BigInts.
+function jsonOf(value) {
+  if (typeof value !== "object" || value === null) {
+    return typeof value === "bigint" ? `${value}` : JSON.stringify(value);
+  }
+  return Array.isArray(value) ? `[${value.map(jsonOf).join(",")}]`
+    : `{${Object.entries(value).map(([name, one]) => `${JSON.stringify(name)}:${jsonOf(one)}`).join(",")}}`;
+}
+
 // The value of a transport parameter as text.
-const valueText = (value) => (typeof value === "object" ? JSON.stringify(value) : `${value}`);
+export const parameterText = (value) => (typeof value === "object" ? jsonOf(value) : `${value}`);
 
 // The transport parameters of both sides beside each other.
 function parameterTable(lists) {
@@ -31,7 +40,7 @@ function parameterTable(lists) {
   for (const name of names) {
     const row = element("tr");
     row.append(element("th", "", name, { scope: "row" }),
-      ...lists.map((list) => element("td", "", list === null ? "not seen" : valueText(list[name] ?? "–"))));
+      ...lists.map((list) => element("td", "", list === null ? "not seen" : parameterText(list[name] ?? "–"))));
     table.append(row);
   }
   return table;

@@ -49,6 +49,8 @@ export class DatagramView {
   show({ index, record, from, to, datagram, packets, findings }, columns) {
     const { boxes } = this;
     boxes.section.hidden = false;
+    // What was lit is of another packet.
+    boxes.inspector.hidden = true;
     boxes.title.textContent = `Record ${record}: ${from} to ${to}`;
     const chosen = packets.find((packet) => packet.index === index);
     boxes.note.textContent = packetText(chosen);
@@ -113,7 +115,9 @@ export class DatagramView {
     this.shown = packet;
     const same = this.packets.filter(({ type, payload }) => type === packet.type && payload !== undefined);
     const payloads = same.map(({ payload }) => fromHex(payload));
-    this.hello.show(payloads, KINDS_OF_HELLO[packet.type], this.columns, { quinn: false });
+    // A server has none in its Initial packets.
+    const kind = packet.type === "Initial" && packet.sender === "server" ? null : KINDS_OF_HELLO[packet.type];
+    this.hello.show(payloads, kind, this.columns, { quinn: false });
   }
 
   // Shows the payload of the packet in which a byte or a field was chosen, and its frame.

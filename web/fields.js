@@ -221,8 +221,10 @@ export function packetFields(library, bytes, { begin, reason }, choices) {
   const rows = [{ ...first, name: "First Byte", show: ([byte]) => firstText(header, byte, false) },
     ...others.map((row) => (row.kind === "short_id" ? { ...row, bytes: [choices.idLength] } : row))];
   fields.draw(rows, read);
-  if (reason === PACKET_CUT) {
-    // The Length says how many bytes there should be.
+  const { last, limit } = fields;
+  const isCut = read.reason === ITEM && last.name === "Length" && last.number > limit - last.end;
+  if (reason === PACKET_CUT || isCut) {
+    // The Length says how many bytes there should be. What is wrong with the first byte comes before that.
     fields.stop({ name: PROTECTED, bytes: [fields.last.number] }, { end: fields.last.end });
   } else if (read.reason === ITEM) {
     behindHeader(fields, header);

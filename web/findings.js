@@ -11,7 +11,9 @@ function findingText({ record, sender, type, number, seen, expected, rfc, sectio
 
 // Shows the first findings of |all|; |go| is called with the index of a packet.
 export function showFindings(box, title, findings, all, go) {
-  title.textContent = all === 0 ? "No rule is broken, as far as the capture shows" : `${count(all, "rule")} broken`;
+  // A rule may be broken in several connections, and by both sides.
+  title.textContent = all === 0 ? "No rule is broken, as far as the capture shows"
+    : `Broken rules: ${count(all, "finding")}`;
   box.replaceChildren(...findings.map((finding) => {
     const button = element("button", "finding", findingText(finding), { type: "button" });
     button.disabled = finding.row === null;

@@ -11,8 +11,7 @@ import { Views } from "./views.js";
 
 // The message of each side, and who reads it.
 const MESSAGES = { client: ["ClientHello", "server"], server: ["EncryptedExtensions", "client"] };
-const HELLO_GOES_ON = "The ClientHello isn’t whole: it goes on in another packet. Paste the client’s other Initial "
-  + "packets too.";
+const HELLO_GOES_ON = "The ClientHello isn’t whole: it goes on in another packet.";
 
 // Whether packets of a kind may have such a message.
 export const mayGreet = (kind) => kind === INITIAL || kind === HANDSHAKE;
@@ -35,9 +34,10 @@ export const helloBoxes = (byId, name) => ({
 });
 
 export class HelloView {
-  // |boxes| has the section, its title, its note, and the views; |lit| is called with what is lit.
-  constructor(library, boxes, lit) {
-    Object.assign(this, { library, boxes, reading: null });
+  // |boxes| has the section, its title, its note, and the views; |lit| is called with what is lit; |advice| says what
+  // to do about a ClientHello that goes on elsewhere.
+  constructor(library, boxes, lit, advice = "") {
+    Object.assign(this, { library, boxes, advice, reading: null });
     this.views = new Views(boxes.grid, boxes.outline, (spot) => {
       if (this.reading) {
         lit(this.reading, spot);
@@ -65,7 +65,7 @@ export class HelloView {
     boxes.title.textContent = reading === null ? "Transport parameters"
       : `Transport parameters in the ${sender}’s ${MESSAGES[sender][0]}`;
     if (reading === null) {
-      boxes.note.textContent = goesOn ? HELLO_GOES_ON : "";
+      boxes.note.textContent = goesOn ? HELLO_GOES_ON + this.advice : "";
       return goesOn;
     }
     const { text, isBad } = summaryOf(reading);

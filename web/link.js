@@ -55,10 +55,25 @@ function choiceWords(words, state) {
   }
 }
 
+const hasFault = (entries) => entries.some(({ bytes }) => bytes === null);
+
+// The inputs, or the text if one of them can't be read.
+function inputWords(words, { text, lines }, entries) {
+  if (!hasFault(entries)) {
+    words.set("hex", entries.map(({ bytes }) => toHex(bytes)).join(BETWEEN));
+    return;
+  }
+  words.set("text", text);
+  if (lines !== "auto") {
+    words.set("lines", lines);
+  }
+}
+
 // What is shown beside the input, and what packets are opened with.
 function furtherWords(words, { mode, compare, other, opened, firstId }) {
   if (compare) {
-    words.set("with", toHex(readText(other).bytes ?? []));
+    const bytes = readText(other).bytes ?? [];
+    words.set("with", bytes.length <= MAX_LINKED ? toHex(bytes) : "");
   }
   for (const [index, { mask, plain }] of mode === "datagram" ? Object.entries(opened) : []) {
     const digits = [mask, plain].map((text) => toHex(readText(text).bytes ?? []));
@@ -70,18 +85,14 @@ function furtherWords(words, { mode, compare, other, opened, firstId }) {
 }
 
 // The fragment for a state, without its #. It has the inputs' bytes as digits; a text that isn't all bytes is in it
-// unchanged. If the page guesses the mode, |guessed| is what it guessed.
+// unchanged. What is too long isn't in it. If the page guesses the mode, |guessed| is what it guessed.
 export function fragmentOf(state, entries, guessed = state.mode) {
   const words = new URLSearchParams();
   words.set("read", state.mode);
   choiceWords(words, { ...state, mode: guessed });
-  if (entries.some(({ bytes }) => bytes === null)) {
-    words.set("text", state.text.slice(0, MAX_LINKED));
-    if (state.lines !== "auto") {
-      words.set("lines", state.lines);
-    }
-  } else if (isLinked(entries)) {
-    words.set("hex", entries.map(({ bytes }) => toHex(bytes)).join(BETWEEN));
+  // A part of them would be another input.
+  if (isLinked(entries, state.text)) {
+    inputWords(words, state, entries);
   }
   if (state.at > 0 && entries.length > 1) {
     words.set("at", state.at);
@@ -90,9 +101,14 @@ export function fragmentOf(state, entries, guessed = state.mode) {
   return words.toString();
 }
 
-// Whether inputs have few enough bytes for a link.
-export function isLinked(entries) {
-  return entries.reduce((sum, { bytes }) => sum + (bytes?.length ?? 0), 0) <= MAX_LINKED;
+// Whether inputs are short enough for a link: their bytes or, if one has none, their text.
+function isLinked(entries, text) {
+  return (hasFault(entries) ? text.length : entries.reduce((sum, { bytes }) => sum + bytes.length, 0)) <= MAX_LINKED;
+}
+
+// What is said of a link that was copied.
+export function saidOfLink(entries, text) {
+  return isLinked(entries, text) ? "Copied" : "Copied, without the bytes: they are too many";
 }
 
 function openedOf(words) {

@@ -1,5 +1,10 @@
 // The module's functions, which rust/page/src/exports.rs describes: bytes go in, text and numbers come out.
 
+// A string or a number in JSON, and integers that are long enough to be too great for a double.
+const JSON_TOKEN = /"[^"\\]*(?:\\.[^"\\]*)*"|-?\d[\d.eE+-]*/g;
+const LONG_INTEGER = /^\d{16,}$/;
+const MAY_HAVE_ONE = /[:,[]\d{16}/;
+
 export class Module {
   // Starts a module that was compiled. It imports nothing.
   static async start(compiled) {
@@ -53,7 +58,23 @@ export class Module {
   }
 }
 
+// The value of JSON. Integers that a double can't hold are BigInts: QUIC's go up to 2^62 - 1.
+export function valueOfJson(text) {
+  if (!MAY_HAVE_ONE.test(text)) {
+    return JSON.parse(text);
+  }
+  // No string in the text begins so.
+  let mark = "#";
+  while (text.includes(`"${mark}`)) {
+    mark += "#";
+  }
+  const isLong = (token) => LONG_INTEGER.test(token) && !Number.isSafeInteger(Number(token));
+  const marked = text.replace(JSON_TOKEN, (token) => (isLong(token) ? `"${mark}${token}"` : token));
+  return JSON.parse(marked, (_, value) => (
+    typeof value === "string" && value.startsWith(mark) ? BigInt(value.slice(mark.length)) : value));
+}
+
 // The objects of JSON in the lines of a text.
 export function objectsOf(text) {
-  return text.split("\n").filter(Boolean).map((line) => JSON.parse(line));
+  return text.split("\n").filter(Boolean).map(valueOfJson);
 }

@@ -19,6 +19,7 @@ const TAG = 16;
 // At most this many packets of a datagram can be opened, and this many frames of each are listed under it.
 const MOST_PACKETS = 16;
 const LISTED_FRAMES = 60;
+const PASTE_OTHERS = " Paste the client’s other Initial packets too.";
 
 // The bytes in a text, of this length or of any, and what is wrong with it.
 function bytesIn(text, length) {
@@ -47,7 +48,7 @@ export class Opened {
     this.boxes = boxes;
     this.on = on;
     this.payload = null;
-    this.hello = new HelloView(helloLibrary, boxes.hello, on.lit);
+    this.hello = new HelloView(helloLibrary, boxes.hello, on.lit, PASTE_OTHERS);
     this.views = new Views(boxes.grid, boxes.outline, (spot) => {
       if (this.payload) {
         on.lit(this.payload, spot);

@@ -12,15 +12,15 @@ import { otherMode } from "./hint.js";
 import { initialPayloads } from "./initial.js";
 import { inspect } from "./inspector.js";
 import { INITIAL } from "./layout.js";
-import { DEFAULT_STATE, fragmentOf, isLinked, isOfCaptures, stateOf } from "./link.js";
+import { DEFAULT_STATE, fragmentOf, isOfCaptures, saidOfLink, stateOf } from "./link.js";
 import { EntryList } from "./list.js";
 import { Opened } from "./opened.js";
 import { linesOf } from "./outline.js";
 import { pictureOf, saveText } from "./picture.js";
 import { printInto } from "./printed.js";
 import { readBytes } from "./reading.js";
-import { inTasks } from "./slices.js";
-import { plainButton, showReading, showStatus, summaryOf } from "./status.js";
+import { inTasks, untilFailure } from "./slices.js";
+import { plainButton, showFailure, showReading, showStatus, summaryOf } from "./status.js";
 import { Views } from "./views.js";
 import { count } from "./shown.js";
 
@@ -146,7 +146,8 @@ export class Page {
   }
 
   // Takes steps: all at once if there are few characters, else in tasks, each with as many as fit into a while.
-  go(steps, characters) {
+  go(work, characters) {
+    const steps = untilFailure(work, (error) => this.failed(error));
     this.going = steps;
     if (characters <= MOST_AT_ONCE) {
       while (!steps.next().done) { /* the next one */ }
@@ -157,6 +158,13 @@ export class Page {
     document.documentElement.dataset.state = "reading";
     showReading(byId("status"), characters);
     requestAnimationFrame(() => setTimeout(() => inTasks(steps, () => this.going === steps, end)));
+  }
+
+  // Shows why a step failed, and nothing of what was read before.
+  failed(error) {
+    this.reading = null;
+    ["entries", "views", "open", "inspector", "keys", "text"].forEach((id) => { byId(id).hidden = true; });
+    showFailure(byId("status"), error);
   }
 
   *steps(state) {
@@ -246,7 +254,7 @@ export class Page {
 
   async copyLink() {
     this.writeLink();
-    const message = isLinked(this.found.entries) ? "Copied" : "Copied, without the bytes: they are too many";
+    const message = saidOfLink(this.found.entries, this.form.text);
     sayOn(byId("link"), (await copied(window.location.href)) ? message : NOT_COPIED);
   }
 
@@ -376,8 +384,9 @@ export class Page {
     }
   }
 
-  // Shows what is lit in the views, and lights what corresponds to it beside them.
-  lit(spot) {
+  // Shows what is lit in the views, which keep the last reading, and lights what corresponds to it beside them.
+  lit(one) {
+    const spot = this.reading && one;
     this.shortest.light(spot);
     this.other.light(spot);
     inspect(byId("inspector"), this.reading, spot);

@@ -40,7 +40,11 @@ class Colors {
   }
 }
 
-export const escaped = (text) => text.replace(/[&<>"]/g, (sign) => `&#${sign.charCodeAt(0)};`);
+// XML has no form for other characters, which the name of a file may have.
+const NOT_IN_XML = /[^\t\n\r\u{20}-\u{d7ff}\u{e000}-\u{fffd}\u{10000}-\u{10ffff}]/gu;
+
+export const escaped = (text) => (
+  text.replace(NOT_IN_XML, "\ufffd").replace(/[&<>"]/g, (sign) => `&#${sign.charCodeAt(0)};`));
 
 const attributes = (values) => Object.entries(values).map(([name, value]) => ` ${name}="${value}"`).join("");
 

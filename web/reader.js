@@ -1,7 +1,7 @@
 // Reads a capture with the module, in pieces: in a worker, or wherever there is time. What takes long is done in steps,
 // between which messages have their turn.
 
-import { Module } from "./module.js";
+import { Module, valueOfJson } from "./module.js";
 
 const PIECE = 1 << 20;
 const GZIP = [0x1f, 0x8b];
@@ -137,6 +137,10 @@ function joined(parts) {
 
 const isOfKind = (line, kind) => line.startsWith(`{"kind":"${kind}"`);
 
+// Whether a packet's datagram was kept, with the payloads of all that were opened in it.
+const isKept = ({ datagram, packets }) => (
+  datagram !== undefined && packets.every(({ opened, payload }) => !opened || payload !== undefined));
+
 // Adds up how many bytes are made for a file.
 function savedSize() {
   let size = 0;
@@ -172,8 +176,9 @@ export class Reader {
   constructor(compiled, file, keyLogs) {
     Object.assign(this, { compiled, file, keyLogs });
     this.module = null;
-    // Why the file could only be read in part, or nothing.
+    // Why the file could only be read in part, or nothing; and the same of what was last made for a file.
     this.fault = "";
+    this.faultOfSaved = "";
     // For each finding its row, once there is a summary.
     this.rowsOfFindings = [];
   }
@@ -248,7 +253,7 @@ export class Reader {
     await this.finish(this.module, after);
     // Lines become objects once they are shown, since there may be many.
     const lines = this.lines("capture_lines");
-    this.capture = JSON.parse(lines.find((line) => isOfKind(line, "capture")));
+    this.capture = valueOfJson(lines.find((line) => isOfKind(line, "capture")));
     this.connections = lines.filter((line) => isOfKind(line, "connection"));
     this.findings = this.lines("capture_check_lines").filter((line) => isOfKind(line, "finding"));
   }
@@ -260,7 +265,7 @@ export class Reader {
 
   // Findings by their positions among all, each with its row in the list of packets, or null.
   findingsAt(positions) {
-    return positions.map((at) => ({ ...JSON.parse(this.findings[at]), row: this.rowsOfFindings[at] }));
+    return positions.map((at) => ({ ...valueOfJson(this.findings[at]), row: this.rowsOfFindings[at] }));
   }
 
   // The findings at rows of the list of packets.
@@ -281,7 +286,7 @@ export class Reader {
   summary() {
     const { calls } = this.module;
     calls.capture_summary();
-    const summary = JSON.parse(this.module.text());
+    const summary = valueOfJson(this.module.text());
     this.rowsOfFindings = summary.finding_rows.map(({ row }) => row ?? null);
     const findings = this.findingsAt([...this.findings.keys()].slice(0, MOST_FINDINGS));
     return {
@@ -293,8 +298,8 @@ export class Reader {
   // Connections, each with the transport parameters of both sides, or null.
   cards(from, to) {
     const parameters = (number, side) => (
-      this.module.calls.capture_parameters(number, side) ? JSON.parse(this.module.text()) : null);
-    return this.connections.slice(from, to).map((line) => JSON.parse(line)).map((connection) => ({
+      this.module.calls.capture_parameters(number, side) ? valueOfJson(this.module.text()) : null);
+    return this.connections.slice(from, to).map(valueOfJson).map((connection) => ({
       ...connection, parameters: SIDES.map((_, side) => parameters(connection.connection, side)),
       streams: this.module.calls.capture_stream_count(connection.connection),
     }));
@@ -326,12 +331,12 @@ export class Reader {
     return new Float64Array(this.module.bytes());
   }
 
-  // A packet with its datagram. If there was no room for that, the capture is read again up to there.
+  // A packet with its datagram. If there was no room for that, or for a payload, the capture is read again up to there.
   async detail(index, after = () => false) {
     this.module.calls.capture_detail(index);
-    const detail = JSON.parse(this.module.text());
+    const detail = valueOfJson(this.module.text());
     detail.findings = this.findingsIn(detail.packets.map((packet) => packet.index));
-    if ("datagram" in detail) {
+    if (isKept(detail)) {
       return detail;
     }
     const module = await this.begin(RECORD, after, detail.record);
@@ -339,7 +344,7 @@ export class Reader {
     if (module.calls.capture_detail(index) === 0) {
       return detail;
     }
-    const again = JSON.parse(module.text());
+    const again = valueOfJson(module.text());
     // What was found later is only in the first table.
     const found = new Map(detail.packets.map((packet) => [packet.index, packet]));
     const packets = again.packets.map((packet) => ({ ...packet, ...found.get(packet.index) }));
@@ -355,7 +360,7 @@ export class Reader {
       parts.push(counted(module.bytes()));
       return after(read);
     };
-    await this.feed(module, take);
+    this.faultOfSaved = await this.feed(module, take);
     await this.finish(module, take);
     take(this.file.size);
     return parts;
@@ -371,7 +376,7 @@ export class Reader {
       addPieces(traces, counted(module.bytes()));
       return after(read);
     };
-    await this.feed(module, take);
+    this.faultOfSaved = await this.feed(module, take);
     await this.finish(module, take);
     take(this.file.size);
     return traces;

@@ -19,11 +19,13 @@ export function element(tag, className, text = "", more = {}) {
 }
 
 export class Rows {
-  // |draw| makes the element of a row. Up to |mostFlowing| rows are all drawn.
-  constructor(box, draw, mostFlowing = 0) {
+  // |draw| makes the element of a row. Up to |mostFlowing| rows are all drawn. |printable| returns how many of the
+  // first rows can be printed.
+  constructor(box, draw, mostFlowing = 0, printable = () => MOST_PRINTED) {
     this.box = box;
     this.draw = draw;
     this.mostFlowing = mostFlowing;
+    this.printable = printable;
     this.count = 0;
     this.drawn = [0, 0];
     this.isPrinting = false;
@@ -35,7 +37,7 @@ export class Rows {
     box.append(this.sizer, this.mark);
     box.addEventListener("scroll", () => this.refreshSoon(), { passive: true });
     this.mark.addEventListener("click", (event) => this.turnPage(event));
-    new ResizeObserver(() => this.refresh(false)).observe(box);
+    new ResizeObserver(() => this.fit()).observe(box);
     window.addEventListener("beforeprint", () => this.print(true));
     window.addEventListener("afterprint", () => this.print(false));
   }
@@ -61,6 +63,20 @@ export class Rows {
     }
     this.size();
     this.box.scrollTop = 0;
+    this.refresh(true);
+  }
+
+  // Draws for another size of the box. While that couldn't be seen, or with another style, rows had another height.
+  fit() {
+    const height = this.isFlowing ? 0 : this.layer.children[0]?.getBoundingClientRect().height ?? 0;
+    if (height === 0 || height === this.height) {
+      this.refresh(false);
+      return;
+    }
+    const top = this.box.scrollTop * this.density;
+    this.height = height;
+    this.size();
+    this.box.scrollTop = top / this.density;
     this.refresh(true);
   }
 
@@ -108,7 +124,8 @@ export class Rows {
 
   refreshAll(isAnew) {
     if (isAnew) {
-      this.drawn = [0, Math.min(this.count, this.isPrinting ? MOST_PRINTED : this.count)];
+      const most = this.isPrinting ? Math.min(MOST_PRINTED, this.printable()) : this.count;
+      this.drawn = [0, Math.min(this.count, most)];
       this.layer.replaceChildren(...Array.from({ length: this.drawn[1] }, (_, index) => this.draw(index)));
       this.layer.style.transform = "";
     }

@@ -31,6 +31,15 @@ export function answerOf(steps) {
   }
 }
 
+// Takes steps up to one that fails, for which |failed| is called.
+export function* untilFailure(steps, failed) {
+  try {
+    yield* steps;
+  } catch (error) {
+    failed(error);
+  }
+}
+
 // Takes steps in tasks, between which the browser does its other work, as long as |isWanted| returns true. At the end
 // it calls |end|.
 export function inTasks(steps, isWanted, end) {

@@ -37,6 +37,13 @@ export function showReading(box, characters) {
   box.replaceChildren(`Reading ${characters} characters …`);
 }
 
+// Says that the page itself has failed. If the module has stopped, it fails from then on.
+export function showFailure(box, error) {
+  console.error(error);
+  box.className = "status bad";
+  box.replaceChildren(element("strong", "", "This page has failed"), `: ${error.message}. Load it again.`);
+}
+
 export function plainButton(text, click) {
   const button = element("button", "plain", text, { type: "button" });
   button.addEventListener("click", click);

@@ -28,21 +28,32 @@ function pathOf(ranges, smallest, numbers) {
   return path;
 }
 
+// What strips that were drawn say, and their paths, by their ranges: a strip is drawn again whenever its list scrolls.
+const drawnStrips = new WeakMap();
+
+function partsOf(ranges) {
+  if (!drawnStrips.has(ranges)) {
+    const [[, largest], [smallest]] = [ranges[0], ranges[ranges.length - 1]];
+    const packets = ranges.reduce((sum, [from, to]) => sum + to - from + 1n, 0n);
+    const what = `${packets} of ${largest - smallest + 1n} packets, in ${count(ranges.length, "range")}`;
+    const path = pathOf(ranges, smallest, largest - smallest + 1n);
+    drawnStrips.set(ranges, { smallest: `${smallest}`, largest: `${largest}`, what, path });
+  }
+  return drawnStrips.get(ranges);
+}
+
 // The smallest number, the strip, the largest number. |ranges| begin with the greatest.
 export function stripOf(ranges) {
-  const [, largest] = ranges[0];
-  const [smallest] = ranges[ranges.length - 1];
+  const { smallest, largest, what, path: drawn } = partsOf(ranges);
   const svg = document.createElementNS(SVG, "svg");
   svg.setAttribute("viewBox", `0 0 ${WIDTH} 1`);
   svg.setAttribute("preserveAspectRatio", "none");
   svg.setAttribute("role", "img");
-  const packets = ranges.reduce((sum, [from, to]) => sum + to - from + 1n, 0n);
-  const what = `${packets} of ${largest - smallest + 1n} packets, in ${count(ranges.length, "range")}`;
   svg.setAttribute("aria-label", what);
   const title = document.createElementNS(SVG, "title");
   title.textContent = what;
   const path = document.createElementNS(SVG, "path");
-  path.setAttribute("d", pathOf(ranges, smallest, largest - smallest + 1n));
+  path.setAttribute("d", drawn);
   svg.append(title, path);
-  return [element("span", "bound", `${smallest}`), svg, element("span", "bound", `${largest}`)];
+  return [element("span", "bound", smallest), svg, element("span", "bound", largest)];
 }

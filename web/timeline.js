@@ -1,6 +1,6 @@
 // Packet numbers over time: a picture of a connection, with axes, in which a part can be enlarged and a packet chosen.
 
-import { chartOf, DOT, LOST, MARGIN, placeIn, POINT, ticksOf } from "./chart.js";
+import { chartOf, DOT, isInView, LOST, MARGIN, placeIn, POINT, ticksOf } from "./chart.js";
 import { plainColor } from "./picture.js";
 
 // How far a click may be from a point, in pixels.
@@ -18,6 +18,8 @@ export class Timeline {
     canvas.addEventListener("pointerdown", (event) => this.press(event));
     canvas.addEventListener("pointermove", (event) => this.move(event));
     canvas.addEventListener("pointerup", (event) => this.release(event));
+    // The browser scrolls instead.
+    canvas.addEventListener("pointercancel", () => this.letGo());
     canvas.addEventListener("keydown", (event) => this.key(event));
     new ResizeObserver(() => this.draw()).observe(canvas);
     window.matchMedia("(prefers-color-scheme: dark)").addEventListener("change", () => this.draw());
@@ -49,10 +51,15 @@ export class Timeline {
 
   // ---- drawing
 
+  // Asked once for many points, since browsers may lay out the page for it.
+  get size() {
+    const { clientWidth: width, clientHeight: height } = this.canvas;
+    return { width, height };
+  }
+
   // Where a time and a number are in the picture.
   place(time, number) {
-    const { clientWidth: width, clientHeight: height } = this.canvas;
-    return placeIn(this.view, { width, height }, time, number);
+    return placeIn(this.view, this.size, time, number);
   }
 
   draw() {
@@ -123,16 +130,14 @@ export class Timeline {
 
   // Where packets are drawn, and whether the server sent them: at each half of a pixel one of each side.
   * spots(areLost) {
-    const { points, view: [begin, end, least, most] } = this;
-    const { clientWidth: width, clientHeight: height } = this.canvas;
-    const across = 2 * (width + 1);
-    const drawn = new Uint8Array(across * 2 * (height + 1));
+    const { points, view, size } = this;
+    const across = 2 * (size.width + 1);
+    const drawn = new Uint8Array(across * 2 * (size.height + 1));
     for (let at = 0; at < points.length; at += POINT) {
       const time = points[at];
       const number = points[at + 1];
-      const isSeen = time >= begin && time <= end && number >= least && number <= most;
-      if (isSeen && LOST.includes(points[at + 3]) === areLost) {
-        const [x, y] = this.place(time, number);
+      if (isInView(view, time, number) && LOST.includes(points[at + 3]) === areLost) {
+        const [x, y] = placeIn(view, size, time, number);
         const spot = across * Math.round(2 * y) + Math.round(2 * x);
         const bit = 1 << points[at + 2];
         if ((drawn[spot] & bit) === 0) {
@@ -170,14 +175,17 @@ export class Timeline {
 
   // ---- pointer and keys
 
-  // The point nearest to a place of the picture, or -1.
+  // The point nearest to a place of the picture, of those that are shown, or -1.
   near(x, y) {
+    const { points, view, size } = this;
     let [best, least] = [-1, NEAR ** 2];
-    for (let at = 0; at < this.count; at += 1) {
-      const [px, py] = this.place(this.points[POINT * at], this.points[POINT * at + 1]);
-      const away = (px - x) ** 2 + (py - y) ** 2;
-      if (away < least) {
-        [best, least] = [at, away];
+    for (let at = 0; at < points.length; at += POINT) {
+      if (isInView(view, points[at], points[at + 1])) {
+        const [px, py] = placeIn(view, size, points[at], points[at + 1]);
+        const away = (px - x) ** 2 + (py - y) ** 2;
+        if (away < least) {
+          [best, least] = [at / POINT, away];
+        }
       }
     }
     return best;
@@ -189,9 +197,17 @@ export class Timeline {
     this.on.spot(at < 0 ? "" : `${sender}, packet ${number}, ${time.toFixed(6)} s, ${STATES[state]}`);
   }
 
+  // Only the first button: of another one that opens a menu no end may be reported.
   press(event) {
-    this.drag = { from: event.offsetX, to: event.offsetX };
-    this.canvas.setPointerCapture(event.pointerId);
+    if (event.button === 0) {
+      this.drag = { from: event.offsetX, to: event.offsetX };
+      this.canvas.setPointerCapture(event.pointerId);
+    }
+  }
+
+  letGo() {
+    this.drag = null;
+    this.draw();
   }
 
   move(event) {
@@ -206,7 +222,10 @@ export class Timeline {
   release(event) {
     const { drag } = this;
     this.drag = null;
-    if (drag && Math.abs(drag.to - drag.from) >= LEAST_DRAG) {
+    if (!drag) {
+      return;
+    }
+    if (Math.abs(drag.to - drag.from) >= LEAST_DRAG) {
       this.enlarge(Math.min(drag.from, drag.to), Math.max(drag.from, drag.to));
     } else {
       this.choose(this.near(event.offsetX, event.offsetY));
@@ -242,6 +261,10 @@ export class Timeline {
   }
 
   key(event) {
+    // With these the browser goes back and forth.
+    if (event.altKey || event.metaKey) {
+      return;
+    }
     const to = { ArrowRight: this.at + 1, ArrowLeft: this.at - 1, Home: 0, End: this.count - 1 }[event.key];
     if (event.key === "Escape") {
       this.all();

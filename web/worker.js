@@ -152,21 +152,25 @@ class Session {
   }
 
   async save({ name }, run) {
-    const parts = await this.reader.objects(this.untilStopped(run));
-    this.tell("saved", run, { blob: new Blob(parts, { type: OBJECT_LINES }), name: `${name}.jsonl` });
+    const { reader } = this;
+    const parts = await reader.objects(this.untilStopped(run));
+    const blob = new Blob(parts, { type: OBJECT_LINES });
+    this.tell("saved", run, { blob, name: `${name}.jsonl`, fault: reader.faultOfSaved });
   }
 
   // Traces have the names that the program gives them. Several are in an archive.
   async saveTraces({ name, connection }, run) {
-    const traces = await this.reader.traces(name, connection, this.untilStopped(run));
+    const { reader } = this;
+    const traces = await reader.traces(name, connection, this.untilStopped(run));
+    const fault = reader.faultOfSaved;
     const files = [...traces].sort(([one], [other]) => one - other)
       .map(([number, parts]) => [`${name}.${number}.sqlog`, parts]);
     if (files.length === 1) {
       const [[title, parts]] = files;
-      this.tell("saved", run, { blob: new Blob(parts, { type: TRACE_TYPE }), name: title });
+      this.tell("saved", run, { blob: new Blob(parts, { type: TRACE_TYPE }), name: title, fault });
     } else if (files.length > 0) {
       const blob = new Blob(tarParts(files), { type: ARCHIVE_TYPE });
-      this.tell("saved", run, { blob, name: `${name}.qlog.tar` });
+      this.tell("saved", run, { blob, name: `${name}.qlog.tar`, fault });
     } else {
       this.tell("unsaved", run, { why: "no packet was opened of which a trace could tell" });
     }

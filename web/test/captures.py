@@ -295,6 +295,27 @@ def widths(browser, address, top):
     return len(WIDTHS)
 
 
+# What is behind the chosen packet, behind another one, and whether the chosen one's texts differ from it.
+CHOSEN = """const style = (selector) => getComputedStyle(document.querySelector(selector));
+    const chosen = style("#packets [aria-selected=true]");
+    const texts = [...document.querySelectorAll("#packets [aria-selected=true] > span")];
+    return [chosen.backgroundColor !== style("#table").backgroundColor,
+      texts.every((text) => getComputedStyle(text).color === chosen.color),
+      chosen.color !== chosen.backgroundColor];"""
+
+
+def forced_colors(browser, address, top):
+    """With the system's own colours it is seen which packet is chosen."""
+    browser.media(**{"forced-colors": "active"})
+    browser.send("navigate", {"url": "about:blank"})
+    browser.go(f"{address}#captures")
+    choose(browser, [f"{top}/rust/capture/tests/data/small.{end}" for end in ("pcap", "keys")])
+    browser.until("return document.querySelectorAll('#packets [data-index]').length > 0", "rows")
+    browser.run("document.querySelector('#packets [data-index]').click()")
+    same(browser.run(CHOSEN), [True, True, True], "the packet that is chosen, with forced colours")
+    browser.unshape()
+
+
 def picture(browser, address, top, path):
     """A picture of a capture with lost packets."""
     browser.send("navigate", {"url": "about:blank"})

@@ -81,7 +81,8 @@ async function ofCapture(file) {
       }
     }
   }
-  const { mode, format } = guessOf(library, [{ bytes: new Uint8Array(held) }], DEFAULT_STATE);
+  const bytes = new Uint8Array(await capture.arrayBuffer());
+  const { mode, format } = guessOf(library, [{ bytes }], DEFAULT_STATE);
   check(mode === CAPTURE && file.endsWith(`.${format}`), `${path.basename(file)} is taken for ${mode} ${format}`);
 }
 
@@ -107,6 +108,17 @@ for (const text of [small.toString("hex"), dump, small.toString("base64")]) {
 check(captureFormat(small.subarray(0, 4)) === null, "four bytes of a capture are one");
 check(captureFormat(fromHex("0a0d0d0a1c0000004d3c2b1a")) === "pcapng", "pcapng");
 
+// A link has a text that can't be read whole or not at all.
+for (const text of ["?\n".repeat(20000), "?\n".repeat(40000)]) {
+  const { text: linked } = stateOf(fragmentOf({ ...DEFAULT_STATE, text }, readEntries(text).entries));
+  check([text, ""].includes(linked), `a link has ${linked.length} of ${text.length} characters`);
+}
+for (const other of ["01".repeat(65536), "01".repeat(65537)]) {
+  const state = { ...DEFAULT_STATE, text: "01", compare: true, other };
+  const { compare, other: linked } = stateOf(fragmentOf(state, readEntries("01").entries));
+  const wanted = other.length > 2 * 65536 ? "" : other;
+  check(compare && linked === wanted, `a link has ${linked.length} digits of another input of ${other.length}`);
+}
 // What was chosen stays: a link says whether the page guesses.
 for (const mode of ["frames", "datagram", "params", "auto"]) {
   const state = { ...DEFAULT_STATE, mode, text: "c300000001" };

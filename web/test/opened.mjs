@@ -104,8 +104,9 @@ async function ofCapture(name) {
       const all = payloads.get(`${connection} ${sender} ${type}`);
       if (parameters[side] && all) {
         const { reading } = readHello(helloLibrary, all, DEFAULT_STATE);
-        const ids = reading && Array.from({ length: reading.count }, (_, at) => Number(reading.item(at).kind));
-        same(ids, parameters[side].order, `the ids of the ${sender}’s parameters, connection ${connection} of ${name}`);
+        const ids = reading && Array.from({ length: reading.count }, (_, at) => `${reading.item(at).kind}`);
+        const whose = `the ids of the ${sender}’s parameters, connection ${connection} of ${name}`;
+        same(ids, parameters[side].order.map(String), whose);
       }
     }
     pictureOf(reader.points(connection), `connection ${connection} of ${name}`);
@@ -125,7 +126,7 @@ function pictureOf(points, what) {
     seen.add(`${state > 1 ? "lost" : side} ${time} ${number}`);
   }
   const text = chartOf(points, [view[0], view[1] + 1e-6, view[2], view[3] + 1], { width: 1e6, height: 1e6 }, COLORS,
-    "a <title> & more");
+    "a <title> & more\u0001");
   // Of the three squares of the legend and those of the packets each is closed.
   const squares = (text.match(/h-[0-9]+z/g) ?? []).length - 3;
   same(squares > 0 && squares <= seen.size, points.length > 0, `${squares} squares in the picture of ${what}`);

@@ -129,6 +129,8 @@ def all_captures(browser, host, words):
     print(f"  the last of {captures.paged(browser, address, top)} rows, by a key")
     captures.rejected(browser, address, top)
     print(f"  captures at {captures.widths(browser, address, top)} widths")
+    captures.forced_colors(browser, address, top)
+    print("  the chosen packet with forced colours")
     silent(browser, "captures")
 
 

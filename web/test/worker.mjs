@@ -62,19 +62,34 @@ const blobs = (...parts) => ({ files: parts.map((part) => new Blob([part].flat()
 // A capture whose packets come so many times.
 const repeated = (times) => [CAPTURE.subarray(0, PCAP_HEADER), ...Array(times).fill(CAPTURE.subarray(PCAP_HEADER))];
 
-// A pcap file of UDP datagrams of 60,000 bytes, none of which is opened.
-function large(records) {
-  const [payload, headers] = [60000, 28];
+// A record of a UDP datagram of so many bytes, which isn't opened.
+function recordOf(payload) {
+  const headers = 28;
   const record = Buffer.alloc(16 + headers + payload, 0x41);
   record.fill(0, 0, 16 + headers);
   record.writeUInt32LE(headers + payload, 8);
   record.writeUInt32LE(headers + payload, 12);
   record.set([0x45, 0, ...be(headers + payload), 0, 0, 0, 0, 64, 17, 0, 0, 10, 0, 0, 1, 10, 0, 0, 2], 16);
   record.set([...be(443), ...be(4433), ...be(8 + payload), 0, 0], 36);
+  return record;
+}
+
+// A pcap file of raw IP with so many datagrams of 60,000 bytes, and more records.
+function large(records, ...more) {
   const file = Buffer.from(CAPTURE.subarray(0, PCAP_HEADER));
-  // Raw IP.
   file.writeUInt32LE(101, 20);
-  return [file, ...Array(records).fill(record)];
+  return [file, ...Array(records).fill(recordOf(60000)), ...more];
+}
+
+// The records of the capture without the 14 bytes of Ethernet's headers.
+function* recordsOfIp() {
+  for (let at = PCAP_HEADER; at < CAPTURE.length;) {
+    const [begin, end] = [at + 16, at + 16 + CAPTURE.readUInt32LE(at + 8)];
+    const header = Buffer.from(CAPTURE.subarray(at, begin));
+    [8, 12].forEach((place) => header.writeUInt32LE(header.readUInt32LE(place) - 14, place));
+    yield Buffer.concat([header, CAPTURE.subarray(begin + 14, end)]);
+    at = end;
+  }
 }
 
 const be = (number) => [number >> 8, number & 0xff];
@@ -148,6 +163,12 @@ async function damaged() {
   same(cut.fault, "the rest of the file, which gzip compressed, can’t be read", "one that is cut off");
   const { packets } = cut.summary;
   same([packets > 0, packets < whole.summary.packets], [true, true], `${packets} packets of it`);
+  for (const [type, name] of [["save", "cut.jsonl"], ["saveTraces", "cut.0.sqlog"]]) {
+    const saved = next("saved", "unsaved");
+    send(type, { name: "cut", connection: null });
+    const { name: found, fault } = await saved;
+    same([found, fault], [name, cut.fault], "what is saved of it");
+  }
 }
 
 // Of packets for which there was no room, the last one is read again.
@@ -169,12 +190,41 @@ async function readAgain() {
   same("datagram" in (await stopped).detail, false, "one whose reading is stopped");
 }
 
+const detailOf = async (index) => {
+  const answer = next("detail");
+  send("detail", { index });
+  return (await answer).detail;
+};
+
+// A datagram is read again also if only one of its payloads had no room. 256 MB are kept, in parts of 1 MB: 17
+// datagrams are in each, and 28,576 bytes are left of the last one.
+async function readPayloadAgain() {
+  const { summary } = await opened(blobs(CAPTURE, KEYS));
+  const records = new Map();
+  for (let index = 0; index < summary.packets; index += 1) {
+    const detail = await detailOf(index);
+    records.set(detail.record, detail);
+  }
+  const sizesOf = ({ datagram, packets }) => [datagram, ...packets.map(({ payload }) => payload)]
+    .map((digits = "") => digits.length / 2);
+  const all = [...records.values()];
+  const place = all.findIndex(({ packets }) => packets.filter(({ payload }) => payload).length > 1);
+  const before = all.slice(0, place).flatMap(sizesOf).reduce((sum, size) => sum + size, 0);
+  const [datagram, first, second] = sizesOf(all[place]);
+  const rest = recordOf(28576 - (before + first + datagram + second - 1));
+  await opened(blobs(large(17 * 256, rest, ...recordsOfIp()), KEYS));
+  const { packets } = all[place];
+  const again = await detailOf(17 * 256 + 1 + packets[1].index);
+  same(again.packets.map(({ payload }) => payload), packets.map(({ payload }) => payload), "payloads without room");
+}
+
 send("start", { module: fs.readFileSync(module) });
 await endsEarly();
 await answersSoon();
 await inPieces();
 await damaged();
 await readAgain();
+await readPayloadAgain();
 if (failed > 0) {
   console.error(`worker.mjs: ${failed} of ${count} checks failed`);
   process.exit(1);

@@ -20,7 +20,7 @@ enum What {
     Opened,
     Number(RangeInclusive<u64>),
     Record(RangeInclusive<u64>),
-    Connection(u64),
+    Connection(RangeInclusive<u64>),
     Kind(String),
     Text(String),
 }
@@ -36,18 +36,15 @@ impl Filter {
     ///
     /// If a word's number can't be read, or there are too many words: what is wrong, in words.
     pub fn parse(text: &str) -> Result<Filter, String> {
-        let all = words(&text.to_lowercase());
+        // Other letters are looked for as they are written.
+        let all = words(&text.to_ascii_lowercase());
         if all.len() > MOST_WORDS {
             return Err(format!("{} words, and a filter has at most {MOST_WORDS}", all.len()));
         }
-        let words = all.into_iter().map(|(word, is_quoted)| {
-            let (is_wanted, word) = match word.strip_prefix('-') {
-                Some(rest) if !rest.is_empty() && !is_quoted => (false, rest),
-                _ => (true, &word[..]),
-            };
-            Ok((is_wanted, if is_quoted { What::Text(word.into()) } else { what(word)? }))
-        });
-        words.collect::<Result<_, String>>().map(Filter)
+        let read = |Word { is_wanted, is_quoted, text }: Word| {
+            Ok((is_wanted, if is_quoted { What::Text(text) } else { what(&text)? }))
+        };
+        all.into_iter().map(read).collect::<Result<_, String>>().map(Filter)
     }
 
     /// Whether it lets all packets through.
@@ -72,17 +69,33 @@ impl Filter {
     }
 }
 
-// The words of a text, and whether they were in quotation marks.
-fn words(text: &str) -> Vec<(String, bool)> {
+// A word: whether packets must have it, whether it was in quotation marks, and what is in them.
+struct Word {
+    is_wanted: bool,
+    is_quoted: bool,
+    text: String,
+}
+
+// The words of a text. A dash before a word, or right before a quotation mark, excludes packets.
+fn words(text: &str) -> Vec<Word> {
     let mut words = Vec::new();
-    let parts = text.split(['"', '“', '”']).enumerate();
-    for (place, part) in parts {
-        match place % 2 {
-            0 => words.extend(part.split_whitespace().map(|word| (word.into(), false))),
-            _ => words.extend((!part.trim().is_empty()).then(|| (part.trim().into(), true))),
-        }
+    let mut parts = text.split(['"', '“', '”']);
+    while let Some(part) = parts.next() {
+        let quoted = parts.next();
+        let bare = quoted.and_then(|_| before_dash(part));
+        words.extend(bare.unwrap_or(part).split_whitespace().map(|word| {
+            let excluded = word.strip_prefix('-').filter(|rest| !rest.is_empty());
+            Word { is_wanted: excluded.is_none(), is_quoted: false, text: excluded.unwrap_or(word).into() }
+        }));
+        let quoted = quoted.map(str::trim).filter(|quoted| !quoted.is_empty());
+        words.extend(quoted.map(|text| Word { is_wanted: bare.is_none(), is_quoted: true, text: text.into() }));
     }
     words
+}
+
+// What comes before a dash at the end that belongs to no word.
+fn before_dash(part: &str) -> Option<&str> {
+    part.strip_suffix('-').filter(|before| before.chars().next_back().is_none_or(char::is_whitespace))
 }
 
 fn what(word: &str) -> Result<What, String> {
@@ -102,7 +115,7 @@ fn what(word: &str) -> Result<What, String> {
         ("opened", None) => What::Opened,
         ("pn" | "number", Some(value)) => What::Number(range(value)?),
         ("#" | "record", Some(value)) => What::Record(range(value)?),
-        ("c" | "connection", Some(value)) => What::Connection(*range(value)?.start()),
+        ("c" | "connection", Some(value)) => What::Connection(range(value)?),
         ("type", Some(value)) => What::Kind(value.into()),
         _ => What::Text(word.into()),
     })
@@ -125,7 +138,7 @@ fn has(what: &What, table: &Table, row: &Row, is_broken: bool) -> bool {
         What::Opened => row.inside.is_some(),
         What::Number(range) => row.number.is_some_and(|number| range.contains(&number)),
         What::Record(range) => range.contains(&row.record),
-        What::Connection(number) => row.owner.is_some_and(|owner| u64::from(owner.0) == *number),
+        What::Connection(range) => row.owner.is_some_and(|owner| range.contains(&owner.0.into())),
         What::Kind(name) => row.kind.to_lowercase().starts_with(name),
         What::Text(text) => contains(table.text(row), text) || contains(row.kind, text),
     }
@@ -155,7 +168,7 @@ fn explained(what: &What) -> String {
         What::Opened => "that were opened".into(),
         What::Number(range) => format!("with the number {}", numbers(range)),
         What::Record(range) => format!("of the record {}", numbers(range)),
-        What::Connection(number) => format!("of connection {number}"),
+        What::Connection(range) => format!("of connection {}", numbers(range)),
         What::Kind(name) => format!("whose type begins with “{name}”"),
         What::Text(text) => format!("with “{text}” in the text"),
     }
@@ -172,7 +185,8 @@ mod tests {
             ("PN:17", What::Number(17..=17)),
             ("pn=5-9", What::Number(5..=9)),
             ("#9", What::Record(9..=9)),
-            ("c:2", What::Connection(2)),
+            ("c:2", What::Connection(2..=2)),
+            ("c:2-5", What::Connection(2..=5)),
             ("type:Initial", What::Kind("initial".into())),
             ("Stream", What::Text("stream".into())),
             ("\"STREAM 4\"", What::Text("stream 4".into())),
@@ -182,6 +196,14 @@ mod tests {
             assert_eq!(Filter::parse(text), Ok(Filter(vec![(true, wanted)])), "{text}");
         }
         assert_eq!(Filter::parse("-lost"), Ok(Filter(vec![(false, What::Lost)])));
+        let excluded = (false, What::Text("stream 4".into()));
+        assert_eq!(Filter::parse("-\"STREAM 4\""), Ok(Filter(vec![excluded.clone()])));
+        assert_eq!(Filter::parse("lost -“stream 4” client"), {
+            Ok(Filter(vec![(true, What::Lost), excluded, (true, What::Sender(Side::Client))]))
+        });
+        // This dash belongs to a word.
+        let texts = ["a-", "b"].map(|text| (true, What::Text(text.into())));
+        assert_eq!(Filter::parse("a-\"b\""), Ok(Filter(texts.to_vec())));
         assert_eq!(Filter::parse("  "), Ok(Filter::default()));
     }
 
@@ -207,5 +229,8 @@ mod tests {
     fn texts_are_found_in_any_case() {
         assert!(contains("STREAM 4 0..9", "stream 4"));
         assert!(!contains("", "a") && !contains("ab", "abc"));
+        // A letter that ASCII lacks is found as it is written.
+        let Filter(words) = Filter::parse("Über").unwrap();
+        assert!(matches!(&words[..], [(true, What::Text(text))] if contains("closed: Über", text)), "{words:?}");
     }
 }

@@ -22,23 +22,24 @@ step() {
 }
 
 # debian ARG..: apt-get for Debian's release `suite`, with its own lists, cache and state, so that the machine's don't
-# change.
+# change. A mirror that DEBIAN_MIRROR names may be one of another day.
 debian() {
     local apt=$WORK/apt-$suite
     apt-get -qq -o Dir::Etc::sourcelist="$apt/sources.list" -o Dir::Etc::sourceparts=/dev/null \
         -o Dir::State="$apt/state" -o Dir::State::status="$apt/status" -o Dir::Cache="$apt/cache" \
-        -o APT::Sandbox::User=root "$@"
+        -o APT::Sandbox::User=root ${DEBIAN_MIRROR:+-o Acquire::Check-Valid-Until=false} "$@"
 }
 
 # debian_lists: the lists of packages and of sources of Debian's release `suite`, fetched once.
 debian_lists() {
     local apt=$WORK/apt-$suite keys=/usr/share/keyrings/debian-archive-keyring.gpg
-    [ ! -e "$apt/status" ] || return 0
+    [ ! -e "$apt/fetched" ] || return 0
     mkdir -p "$apt"/{state/lists,cache/archives}/partial
     printf '%s [signed-by=%s] %s %s main\n' deb "$keys" "$mirror" "$suite" deb-src "$keys" "$mirror" "$suite" \
         >"$apt/sources.list"
     : >"$apt/status"
-    debian update
+    debian --error-on=any update
+    : >"$apt/fetched"
 }
 
 # version_of STACK: the version of a stack in the file archives.

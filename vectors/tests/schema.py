@@ -1,6 +1,6 @@
 #!/usr/bin/env python3
 """Checks that the files of json/ fit their schema, with the keywords of JSON Schema that schema.json uses, and that
-README.md has the numbers of their tests."""
+README.md has the numbers of their tests and of the captures that break a rule."""
 import json
 import pathlib
 import re
@@ -57,9 +57,18 @@ def faults_of_counts(counts):
     text = (TOP / "README.md").read_text(encoding="utf-8")
     told = {name: int(count) for name, count in re.findall(r"^\| `(\w+)\.json` \| (\d+) \|", text, re.M)}
     if told != counts:
-        yield f"README.md: {dict(told.items() - counts.items())}, not {dict(counts.items() - told.items())}"
+        yield f"README.md beside json: {dict(told.items() - counts.items())}, not {dict(counts.items() - told.items())}"
     if f"\n{sum(counts.values())} tests " not in text:
-        yield f"README.md doesn't begin with {sum(counts.values())} tests"
+        yield f"README.md beside json doesn't begin with {sum(counts.values())} tests"
+
+
+def faults_of_captures():
+    """Where README.md differs in how many captures break a rule, and how many nearly do."""
+    text = (TOP / "README.md").read_text(encoding="utf-8")
+    captures = json.loads((TOP / "captures" / "broken.json").read_text(encoding="utf-8"))["captures"]
+    lawful = sum(one["lawful"] for one in captures)
+    told = f"has {len(captures)} captures", f"In {len(captures) - lawful} of them", f"in {lawful} it nearly does"
+    yield from (f"README.md beside json doesn't say, of captures/broken: {one}" for one in told if one not in text)
 
 
 def main():
@@ -69,7 +78,7 @@ def main():
         file = json.loads(path.read_text(encoding="utf-8"))
         counts[path.stem] = file["numberOfTests"]
         found += faults(file, SCHEMA, path.stem)
-    found += faults_of_counts(counts)
+    found += [*faults_of_counts(counts), *faults_of_captures()]
     print("\n".join(found), end="\n" if found else "")
     print(f"schema.py: {len(files)} files, {len(found)} faults")
     return 1 if found else 0

@@ -10,19 +10,23 @@ use crate::opened::{Opened, Reset, Retried, id_of, space_and_type};
 use crate::recovery::Outcome;
 use crate::search::{Found, Source};
 use crate::sink::{Ended, Event, Unopened};
-use crate::tls::{CryptoStream, HelloAgain, Said};
+use crate::tls::{CryptoStream, HelloAgain};
 use quic_wire::datagram::{HeaderKind, PacketRef};
 use quic_wire::fields;
-use quic_wire::frame::{Ack, Close, Crypto, Frame, Iter, Rules};
+use quic_wire::frame::{Ack, Close, Frame, Iter, Rules};
 use quic_wire::ids::SpaceId;
 use quic_wire::permitted::permits;
-use quic_wire::transport_parameters::{ReadOptions, TransportParameters};
 use quic_wire::{ConnectionId, Side};
+
+mod hello;
 
 // How long a connection that is closed, and one that isn't, may say nothing until it has ended, in nanoseconds.
 const SECOND: u64 = 1_000_000_000;
 const CLOSING: u64 = 10 * SECOND;
 const SILENCE: u64 = 600 * SECOND;
+
+// How many Retries are remembered, of which the client takes one. Anyone who saw its first packet can make them.
+const MOST_RETRIES: usize = 4;
 
 /// What events go to.
 pub(crate) type Tell<'t> = dyn FnMut(&Connection, Event<'_>) + 't;
@@ -32,8 +36,11 @@ pub struct Connection {
     number: usize,
     ends: [End; 2],
     version: u32,
+    first_version: u32,
     first_dcid: ConnectionId,
-    retry_id: Option<ConnectionId>,
+    /// The ids of Retries, first the one to which the client sent.
+    retry_ids: Vec<ConnectionId>,
+    is_retried: bool,
     random: Option<[u8; 32]>,
     again: Option<Box<HelloAgain>>,
     suite: Option<u16>,
@@ -93,8 +100,10 @@ impl Connection {
             number,
             ends: Default::default(),
             version,
+            first_version: version,
             first_dcid,
-            retry_id: None,
+            retry_ids: Vec::new(),
+            is_retried: false,
             random: None,
             again: None,
             suite: None,
@@ -173,9 +182,19 @@ impl Connection {
         &self.first_dcid
     }
 
-    /// The id that a Retry gave.
+    /// The id that a Retry gave. If there were several, it is the one to which the client sent.
     pub fn retry_id(&self) -> Option<&ConnectionId> {
-        self.retry_id.as_ref()
+        self.retry_ids.first()
+    }
+
+    /// The ids that Retries gave: [`Connection::retry_id`], and then those of Retries that the client didn't take.
+    pub fn retry_ids(&self) -> &[ConnectionId] {
+        &self.retry_ids
+    }
+
+    /// The version of its first packet.
+    pub(crate) fn first_version(&self) -> u32 {
+        self.first_version
     }
 
     /// The random bytes of the ClientHello, by which key logs name it.
@@ -231,7 +250,7 @@ impl Connection {
         keylog: &KeyLog,
         buffer: &'a mut Vec<u8>,
     ) -> Option<Opened<'a>> {
-        let (space, _) = space_and_type(packet.header().kind())?;
+        let (space, _) = space_and_type(packet.header().kind()).filter(|_| !self.is_anew(packet, sender))?;
         let (expected, also) = (self.end(sender).expected(space), self.end(sender).also_expected(space));
         let random = self.random_in(keylog).copied();
         let Connection { suite, version, keys, .. } = self;
@@ -243,6 +262,15 @@ impl Connection {
             }
         }
         keys.open(candidate, &known, buffer)
+    }
+
+    // Whether it is a packet with which a client begins anew in another version, to the same id: before the server has
+    // answered, only a version negotiation makes it send another one there (RFC 9000, section 6.2).
+    fn is_anew(&self, packet: &PacketRef<'_>, sender: Side) -> bool {
+        let header = packet.header();
+        let is_first = *packet.dst_cid() == *self.first_dcid && self.end(Side::Server).scid.is_none();
+        let is_of_client = sender == Side::Client && header.kind() == HeaderKind::Initial;
+        is_of_client && is_first && !self.began_before && header.version() != self.first_version
     }
 
     /// As [`Keyring::segment_len`].
@@ -280,18 +308,22 @@ impl Connection {
         }
     }
 
-    /// Whether a Retry can still come: nothing else of the server was opened (RFC 9000, section 17.2.5.2).
+    /// Whether a Retry can still come: the client took none, and nothing else of the server was opened (RFC 9000,
+    /// section 17.2.5.2). A server without a state may send several, of which the client takes the first that comes.
     pub(crate) fn may_retry(&self) -> bool {
-        !self.began_before && self.retry_id.is_none() && self.end(Side::Server).scid.is_none()
+        let has_room = !self.is_retried && self.retry_ids.len() < MOST_RETRIES;
+        !self.began_before && has_room && self.end(Side::Server).scid.is_none()
     }
 
     /// Takes a Retry.
     pub(crate) fn take_retry(&mut self, retried: &Retried, time: u64) {
-        self.retry_id = Some(retried.id());
-        self.again = Some(Box::default());
+        if !self.retry_ids.contains(&retried.id()) {
+            self.retry_ids.push(retried.id());
+            self.keys.retry(retried);
+        }
+        self.again.get_or_insert_default();
         self.ends[Side::Client as usize].recovery.begin_again();
         self.last = self.last.max(time);
-        self.keys.retry(retried);
     }
 
     /// Takes a stateless reset.
@@ -342,12 +374,22 @@ impl Connection {
         if opened.kind() == HeaderKind::Short {
             return;
         }
-        end.has_handshake |= opened.kind() == HeaderKind::Handshake;
+        if opened.kind() == HeaderKind::Handshake {
+            end.has_handshake = true;
+            // A close in an Initial packet before it may be anyone's.
+            end.closed = end.closed.filter(|closed| closed.sent.space != SpaceId::Initial);
+        }
         if end.scid.is_none() {
             let id = id_of(packet.src_cid());
             end.scid = Some(id);
             end.add_id(0, id, None);
             tell(self, Event::NewId(id, sender));
+        }
+        let may_take = sender == Side::Client && !self.is_retried;
+        let taken = self.retry_ids.iter().position(|id| may_take && **id == *packet.dst_cid());
+        if let Some(place) = taken {
+            self.retry_ids.swap(0, place);
+            self.is_retried = true;
         }
         // The server may answer in another version, and the client's first one may come again after that.
         let is_first = self.end(Side::Server).scid.is_none();
@@ -435,22 +477,6 @@ impl Connection {
         }
     }
 
-    fn take_again(&mut self, opened: &Opened<'_>, crypto: &Crypto<'_>) {
-        let is_of_client = opened.sender() == Side::Client && opened.space() == SpaceId::Initial;
-        let is_after = is_of_client && *opened.packet().dst_cid() != *self.first_dcid;
-        if let Some(again) = self.again.as_mut().filter(|_| is_after) {
-            again.take(crypto.offset, crypto.bytes);
-        }
-    }
-
-    // The random bytes for which a key log has secrets: those of the first ClientHello or, if it has none for them, of
-    // the one after a Retry.
-    fn random_in(&self, keylog: &KeyLog) -> Option<&[u8; 32]> {
-        let again = self.again.as_ref().and_then(|again| again.random());
-        let is_first = self.random.is_none_or(|first| keylog.knows(&first));
-        again.filter(|again| !is_first && keylog.knows(again)).or(self.random.as_ref())
-    }
-
     // Takes the ACK that a side sent in a packet. Its delay counts as RFC 9002, section 5.3, says.
     fn take_ack(&mut self, ack: &Ack<'_>, sent: &Sent, sender: Side) -> Vec<Outcome> {
         let parameters = self.end(sender).parameters();
@@ -482,49 +508,6 @@ impl Connection {
         let end = &mut self.ends[sender as usize];
         if end.closed.is_none() && (sent.space != SpaceId::Initial || !end.has_handshake) {
             end.closed = Some(Closed { sent: *sent, by_application: matches!(close, Close::Application(_)) });
-        }
-    }
-
-    fn take_message(&mut self, opened: &Opened<'_>, said: Said, tell: &mut Tell<'_>) {
-        let (list, sender) = match (said, opened.sender(), opened.space()) {
-            (Said::ClientHello { random, parameters, server_name }, Side::Client, SpaceId::Initial) => {
-                (self.random, self.server_name) = (Some(random), server_name);
-                (parameters, Side::Client)
-            }
-            (Said::ServerHello { suite }, Side::Server, SpaceId::Initial) => {
-                self.suite = Some(suite);
-                (None, Side::Server)
-            }
-            (Said::EncryptedExtensions { parameters, protocol }, Side::Server, SpaceId::Handshake) => {
-                self.protocol = protocol;
-                (parameters, Side::Server)
-            }
-            _ => return,
-        };
-        if let Some(list) = list {
-            self.take_parameters(opened, sender, &list, tell);
-        }
-    }
-
-    // Parameters that RFC 9000 rejects count if quinn-proto accepts them.
-    fn take_parameters(&mut self, opened: &Opened<'_>, sender: Side, list: &[u8], tell: &mut Tell<'_>) {
-        let parameters = match TransportParameters::read_list(!sender, ReadOptions::RFC, list) {
-            Ok(parameters) => parameters,
-            Err(refusal) => {
-                tell(self, Event::Parameters { opened, list, read: Err(&refusal) });
-                let Ok(parameters) = TransportParameters::read_list(!sender, ReadOptions::QUINN, list) else { return };
-                parameters
-            }
-        };
-        tell(self, Event::Parameters { opened, list, read: Ok(&parameters) });
-        let end = &mut self.ends[sender as usize];
-        end.parameters = Some(parameters);
-        if let Some(token) = parameters.stateless_reset_token {
-            end.add_token(token);
-        }
-        if let Some(address) = parameters.preferred_address {
-            end.add_id(1, address.connection_id, Some(address.stateless_reset_token));
-            tell(self, Event::NewId(address.connection_id, sender));
         }
     }
 }

@@ -260,6 +260,9 @@ impl Follower {
         owners: &mut Vec<Owner>,
         sink: &mut dyn Sink,
     ) {
+        if owners.len() > 1 {
+            self.sort(owners, packet);
+        }
         let owner = match packet.header().kind() {
             HeaderKind::Retry => return self.retry(datagram, packet, owners, sink),
             HeaderKind::VersionNegotiate => {
@@ -274,6 +277,19 @@ impl Follower {
             Some(owner) => *owners = vec![owner],
             None => self.not_opened(datagram, packet, owners, sink),
         }
+    }
+
+    // Puts those first whose connection began with a packet's version, and of these those whose sender is known by its
+    // id. A client that begins anew in another version, or after a Retry that isn't in the capture, may keep its ids.
+    fn sort(&self, owners: &mut [Owner], packet: &PacketRef<'_>) {
+        let (header, id) = (packet.header(), packet.src_cid());
+        let has_version = matches!(header.kind(), HeaderKind::Initial | HeaderKind::Retry);
+        owners.sort_by_key(|(number, sender)| {
+            let Some(connection) = self.connections.get(number) else { return (true, true) };
+            let is_other = has_version && connection.first_version() != header.version();
+            let known = connection.end(*sender).first_scid();
+            (is_other, !known.is_some_and(|known| header.is_short() || **known == *id))
+        });
     }
 
     // Opens a packet as one of these senders.
@@ -409,8 +425,8 @@ impl Follower {
         if connection.random().is_none() || connection.began_before() {
             return;
         }
-        let ids = [Some(*connection.first_dcid()), connection.retry_id().copied()];
-        for held in self.waiting.take(|held| ids.contains(&Some(held.dcid))) {
+        let ids = [&[*connection.first_dcid()][..], connection.retry_ids()].concat();
+        for held in self.waiting.take(|held| ids.contains(&held.dcid)) {
             let datagram = held.datagram();
             let Some(packet) = packet_at(&datagram, held.offset, held.dcid.len()) else { continue };
             self.packet(&datagram, &packet, &mut vec![(number, Side::Client)], sink);

@@ -11,8 +11,8 @@ use quic_wire::{ConnectionId, Side};
 /// A datagram of more bytes may be several, which the network card cuts apart.
 pub(crate) const MOST_USUAL: usize = 1500;
 
-// The sizes that are tried for segments: where the id is found again, as far as the longest frames of Ethernet go; from
-// the usual size down if ids have no bytes.
+// The sizes that are tried for segments: up to where the id is found again, as far as the longest frames of Ethernet
+// go; from the usual size down if ids have no bytes.
 const LONGEST_SEGMENT: usize = 9216;
 const LEAST_SEGMENT: usize = 600;
 const MOST_SIZES: usize = 128;
@@ -71,15 +71,27 @@ pub(crate) struct Offloaded<'a> {
 }
 
 impl<'a> Offloaded<'a> {
-    // The sizes that its segments may have: that of the last ones, of all bytes, and then further ones.
-    fn sizes(self, last: usize) -> impl Iterator<Item = usize> + 'a {
+    // Where the segment with the first short packet may end: by the size of the last segments, by that of all bytes,
+    // and then by further ones.
+    fn ends(self, last: usize) -> impl Iterator<Item = usize> + 'a {
         let Offloaded { bytes, begin, id_len, .. } = self;
         let id = bytes.get(begin + 1..begin + 1 + id_len).unwrap_or_default();
-        let again = (begin + 1 + id_len + 4 + TAG_LEN..bytes.len().min(LONGEST_SEGMENT + 1))
+        let again = (begin + 1 + id_len + 4 + TAG_LEN..bytes.len().min(begin + LONGEST_SEGMENT + 1))
             .filter(move |at| !id.is_empty() && bytes.get(at + 1..).is_some_and(|behind| behind.starts_with(id)));
         let usual = (LEAST_SEGMENT..=MOST_USUAL).rev().filter(move |_| id.is_empty());
-        let sizes = [last, bytes.len()].into_iter().chain(again.take(MOST_SIZES)).chain(usual);
-        sizes.filter(move |size| (begin + 1..=bytes.len()).contains(size))
+        let by_size = move |size: usize| begin.checked_div(size).map_or(0, |before| (before + 1) * size);
+        let ends = [by_size(last), bytes.len()].into_iter().chain(again.take(MOST_SIZES)).chain(usual.map(by_size));
+        ends.filter(move |end| (begin + 1..=bytes.len()).contains(end))
+    }
+
+    // The sizes that segments may have if one ends there: those before it have only long headers.
+    fn sizes(self, end: usize) -> impl Iterator<Item = usize> {
+        let front = Packets::with_checks(&self.bytes[..self.begin], 0, &VERSIONS, CHECKS).map_while(Result::ok);
+        let mut begins: Vec<_> = front.map(|packet| packet.place().range().start).collect();
+        begins.push(self.begin);
+        let fits = |size: &usize| (*size..end).step_by(*size).all(|at| begins.binary_search(&at).is_ok());
+        let parts: Vec<_> = begins.iter().copied().filter(|size| *size > 0 && end % size == 0).filter(fits).collect();
+        [end].into_iter().chain(parts)
     }
 }
 
@@ -99,8 +111,8 @@ type InitialKey = (u32, Side, ConnectionId);
 /// The keys of a connection.
 pub(crate) struct Keyring {
     first_id: ConnectionId,
-    /// The id of a Retry.
-    retry_id: Option<ConnectionId>,
+    /// The ids of Retries.
+    retry_ids: Vec<ConnectionId>,
     initial: Vec<(InitialKey, PacketKeys)>,
     early: Option<Box<PacketKeys>>,
     handshake: [Option<Box<PacketKeys>>; 2],
@@ -114,7 +126,7 @@ impl Keyring {
     pub(crate) fn new(first_id: ConnectionId) -> Keyring {
         Keyring {
             first_id,
-            retry_id: None,
+            retry_ids: Vec::new(),
             initial: Vec::new(),
             early: None,
             handshake: [None, None],
@@ -127,7 +139,7 @@ impl Keyring {
     /// After a Retry that the client took, Initial packets have keys of its id, except those of the client that came
     /// late.
     pub(crate) fn retry(&mut self, retried: &Retried) {
-        self.retry_id = Some(retried.id());
+        self.retry_ids.push(retried.id());
     }
 
     /// Takes the keys of a connection that began before the capture, as a packet of it has shown them.
@@ -135,8 +147,8 @@ impl Keyring {
         let label = found.source().label;
         let sender = label.sender();
         if matches!(label, Label::ClientTraffic | Label::ServerTraffic) && self.lacks(sender) {
-            let (keys, bit) = found.into_phase();
-            self.phases[sender as usize] = Some(Box::new(Phase { bit, ..Phase::new(keys) }));
+            let (keys, updates) = found.into_phase();
+            self.phases[sender as usize] = Some(Box::new(Phase { bit: updates % 2 == 1, updates, ..Phase::new(keys) }));
         }
     }
 
@@ -183,12 +195,12 @@ impl Keyring {
     // client may have discarded.
     fn open_initial<'a>(&mut self, candidate: Candidate<'a>, buffer: &'a mut Vec<u8>) -> Option<Opened<'a>> {
         let key = |id| (candidate.packet.header().version(), candidate.sender, id);
-        let retried = self.retry_id.map(key).filter(|retried| {
-            let keys = self.initial(*retried);
+        let retried = self.retry_ids.clone().into_iter().find(|id| {
+            let keys = self.initial(key(*id));
             keys.is_some_and(|keys| candidate.is_opened_by(keys, buffer))
         });
-        let first = key(self.first_id);
-        candidate.open(self.initial(retried.unwrap_or(first))?, buffer)
+        let id = retried.unwrap_or(self.first_id);
+        candidate.open(self.initial(key(id))?, buffer)
     }
 
     fn initial(&mut self, key: InitialKey) -> Option<&PacketKeys> {
@@ -215,8 +227,8 @@ impl Keyring {
     }
 
     /// Finds the size of the datagrams that a network card cuts from one of these: Linux passes datagrams to the card
-    /// that have one size, except for the last. It is the size with which the first short packet
-    /// opens; `None` if it opens with none.
+    /// that have one size, except for the last. It is the size with which the first short packet opens, and the next
+    /// one if segments before the first have only long headers; `None` if the first opens with none.
     pub(crate) fn segment_len(
         &mut self,
         datagram: Offloaded<'_>,
@@ -230,11 +242,17 @@ impl Keyring {
         let (most, mut is_tried) = (if are_all { usize::MAX } else { FEW_SIZES }, false);
         let mut size_by = |phase: &mut Phase| {
             is_tried = true;
-            datagram.sizes(last).take(most).find(|size| {
-                let segment = Packets::with_checks(&bytes[begin..*size], id_len, &VERSIONS, CHECKS).next();
-                let Some(Ok(packet)) = segment else { return false };
+            let mut opens = |segment: &[u8]| {
+                let first = Packets::with_checks(segment, id_len, &VERSIONS, CHECKS).next();
+                let Some(Ok(packet)) = first else { return false };
                 phase.open(Candidate { packet, sender, expected }, buffer).is_some()
-            })
+            };
+            let end = datagram.ends(last).take(most).find(|end| opens(&bytes[begin..*end]))?;
+            if begin == 0 || end == bytes.len() {
+                return Some(end);
+            }
+            let mut sizes = datagram.sizes(end);
+            Some(sizes.find(|size| opens(&bytes[end..bytes.len().min(end + size)])).unwrap_or(end))
         };
         let slot = &mut self.phases[sender as usize];
         let size = match slot {

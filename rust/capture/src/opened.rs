@@ -151,8 +151,7 @@ impl<'a> Opened<'a> {
         self.packet.place().range().start + self.number.payload
     }
 
-    /// How often its sender had updated the keys that open it (RFC 9001, section 6); 0 if it isn't a 1-RTT packet. If
-    /// the connection began before the capture, only updates after the side's first 1-RTT packet in it count.
+    /// How often its sender had updated the keys that open it (RFC 9001, section 6); 0 if it isn't a 1-RTT packet.
     pub fn updates(&self) -> u64 {
         self.updates
     }

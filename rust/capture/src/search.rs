@@ -73,7 +73,7 @@ pub(crate) struct Found {
     number: u64,
     id_len: usize,
     keys: PacketKeys,
-    key_phase: bool,
+    updates: u64,
 }
 
 impl Found {
@@ -91,9 +91,9 @@ impl Found {
         self.id_len
     }
 
-    /// Its keys, and the Key Phase bit of packets that have them.
-    pub(crate) fn into_phase(self) -> (PacketKeys, bool) {
-        (self.keys, self.key_phase)
+    /// Its keys, and how often they were updated.
+    pub(crate) fn into_phase(self) -> (PacketKeys, u64) {
+        (self.keys, self.updates)
     }
 }
 
@@ -246,7 +246,8 @@ impl Search<'_> {
             let candidate = Candidate { packet, sender: source.label.sender(), expected };
             self.cost += (keys.len() * (1 + packet.data().len() / 1024)) as u64;
             if let Some((at, number)) = self.opens(candidate, &keys) {
-                return Some(Found { source, number, id_len, keys: keys.swap_remove(at), key_phase: bit == 1 });
+                let updates = (bit + 2 * at) as u64;
+                return Some(Found { source, number, id_len, keys: keys.swap_remove(at), updates });
             }
         }
         None
@@ -276,7 +277,7 @@ impl Search<'_> {
                 let candidate = Candidate { packet, sender: source.label.sender(), expected };
                 candidate.number_by(&keys, self.buffer)
             })?;
-            Some(Found { source, number, id_len: packet.dst_cid().len(), keys, key_phase: false })
+            Some(Found { source, number, id_len: packet.dst_cid().len(), keys, updates: 0 })
         })
     }
 }

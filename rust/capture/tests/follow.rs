@@ -69,6 +69,45 @@ fn retry() {
     assert_eq!(follower.connections().next().unwrap().retry_id().unwrap()[..], *b"retried");
 }
 
+// A server without a state answers each Initial packet with a Retry, of another id each time. The client takes one, and
+// the others may have been lost.
+#[test]
+fn retries_of_several_ids() {
+    let ids: [&[u8]; 3] = [b"first", b"second", b"third"];
+    for taken in 0..ids.len() {
+        let mut made = Made::new(1);
+        let hello = crypto(0, &made.client_hello());
+        let mut all = vec![made.send(Client, Initial, &hello)];
+        for (place, id) in ids.iter().enumerate() {
+            all.push(if place == taken { made.retry(id) } else { made.clone().retry(id) });
+        }
+        all.push(made.send(Client, Initial, &hello));
+        all.extend(made.handshake_of_server());
+        all.extend([made.send(Server, Short, PING), made.send(Client, Short, PING)]);
+        let (follower, rows) = rows_of(&[&made], &all);
+        assert_eq!((rows.opened(0), &rows.unopened[..]), (7, &[Unopened::Retry; 3][..]), "{taken}: {:#?}", rows.rows);
+        assert_eq!(follower.counts().connections, 1);
+        assert_eq!(follower.connections().next().unwrap().retry_id().unwrap()[..], *ids[taken]);
+    }
+}
+
+// The connection seems to begin twice, with the same ids and the same ClientHello. The server's packets are of the one
+// that it has answered.
+#[test]
+fn a_retry_that_is_missing() {
+    let mut made = Made::new(1);
+    let hello = crypto(0, &made.client_hello());
+    let mut all = vec![made.send(Client, Initial, &hello)];
+    made.retry(b"retried");
+    all.push(made.send(Client, Initial, &hello));
+    let (hello, extensions) = (crypto(0, &made.server_hello()), crypto(0, &made.encrypted_extensions()));
+    all.extend([made.send(Server, Initial, &hello), made.send(Server, Handshake, &extensions)]);
+    made.first_dcid = None;
+    all.extend([made.send(Client, Handshake, PING), made.send(Server, Short, PING), made.send(Client, Short, PING)]);
+    let (_, rows) = rows_of(&[&made], &all);
+    assert_eq!((rows.opened(0), rows.opened(1), &rows.unopened[..]), (1, 6, &[][..]), "{:#?}", rows.rows);
+}
+
 // Another ClientHello, of which the key log has the secrets; one that anyone has sent doesn't matter.
 #[test]
 fn another_hello_after_a_retry() {
@@ -102,20 +141,51 @@ fn another_version_after_the_first_packet() {
     all_opened(&made, &all, 6);
 }
 
+fn negotiation(made: &mut Made) -> Kept {
+    let mut packet = Vec::new();
+    let (dst_cid, src_cid) = (&made.ids[0][..], &made.initial_id[..]);
+    VersionNegotiation { random: 0, dst_cid, src_cid, versions: &[1] }.encode(&mut packet).unwrap();
+    made.datagram(Server, packet)
+}
+
 #[test]
 fn version_negotiation() {
     let mut made = Made { version: 0x0a1a_2a3a, ..Made::new(1) };
     let unknown = made.send(Client, Initial, &[0; 30]);
-    let mut packet = Vec::new();
-    let (dst_cid, src_cid) = (&made.ids[0][..], &made.initial_id[..]);
-    VersionNegotiation { random: 0, dst_cid, src_cid, versions: &[1] }.encode(&mut packet).unwrap();
-    let negotiation = made.datagram(Server, packet);
+    let negotiation = negotiation(&mut made);
     made.version = 1;
     let mut all = vec![unknown, negotiation];
     all.extend(made.handshake());
     let (_, rows) = rows_of(&[&made], &all);
     assert_eq!((rows.opened(0), &rows.unopened[..]), (4, &[Unopened::VersionNegotiation][..]));
     assert_eq!(rows.rests, [Rest::Version(0x0a1a_2a3a)]);
+}
+
+// A client that begins anew in another version may keep its ids and begin its numbers again (RFC 9000, section 6.2).
+// That is another connection.
+#[test]
+fn another_attempt_after_a_version_negotiation() {
+    for has_retry in [false, true] {
+        let mut first = Made { version: VERSION_2, ..Made::new(1) };
+        let hello = crypto(0, &first.client_hello());
+        let mut all = vec![first.send(Client, Initial, &hello), first.send(Client, Initial, &hello)];
+        all.push(negotiation(&mut first));
+        let mut second = Made { salt: 1, time: first.time, ..Made::new(1) };
+        let hello = crypto(0, &second.client_hello());
+        let mut unopened = vec![Unopened::VersionNegotiation];
+        if has_retry {
+            all.extend([second.send(Client, Initial, &hello), second.retry(b"retried")]);
+            unopened.push(Unopened::Retry);
+        }
+        all.push(second.send(Client, Initial, &hello));
+        all.extend(second.handshake_of_server());
+        all.extend([second.send(Server, Short, PING), second.send(Client, Short, PING)]);
+        // A packet of the first attempt comes late.
+        all.push(all[1].clone());
+        let (_, rows) = rows_of(&[&second], &all);
+        let found = (rows.opened(0), rows.opened(1), rows.unopened);
+        assert_eq!(found, (3, 6 + usize::from(has_retry), unopened), "{:#?}", rows.rows);
+    }
 }
 
 #[test]
@@ -159,6 +229,22 @@ fn key_updates() {
     follower.keylog.add(made.key_log().as_bytes());
     all.iter().for_each(|kept| follower.take(&kept.datagram(), &mut counts));
     assert_eq!(counts.0, [1, 1, 1, 1, 0, 2, 2, 2, 2, 3, 3, 3, 3]);
+}
+
+// The packets with its first keys aren't in the capture.
+#[test]
+fn key_updates_that_are_missing() {
+    let mut made = Made::new(1);
+    let mut all = made.handshake();
+    made.updates = [3, 0];
+    all.extend([made.send(Client, Short, PING), made.send(Client, Short, PING)]);
+    made.updates = [4, 0];
+    all.push(made.send(Client, Short, PING));
+    let mut counts = Counts(Vec::new());
+    let mut follower = Follower::default();
+    follower.keylog.add(made.key_log().as_bytes());
+    all.iter().for_each(|kept| follower.take(&kept.datagram(), &mut counts));
+    assert_eq!(counts.0, [3, 3, 4]);
 }
 
 /// How often the keys of each 1-RTT packet had been updated.
@@ -267,6 +353,22 @@ fn segmentation_offload() {
     packets.extend(made.packet(Server, Short, PING));
     all.push(made.datagram(Server, packets));
     all_opened(&made, &all, 8);
+    // The first segments have only a Handshake packet each.
+    for ids in [[b"client".to_vec(), b"server".to_vec()], [vec![], vec![]]] {
+        for front in [1, 2] {
+            let mut made = Made { ids: ids.clone(), ..Made::new(1) };
+            let mut all = made.handshake();
+            let [long, short] = [Handshake, Short].map(|kind| made.clone().packet(Server, kind, &[0; 100]).len() - 100);
+            let mut packets = Vec::new();
+            (0..front).for_each(|_| packets.extend(made.packet(Server, Handshake, &vec![0; 1200 - long])));
+            (0..3).for_each(|_| packets.extend(made.packet(Server, Short, &vec![0; 1200 - short])));
+            packets.extend(made.packet(Server, Short, &[0; 50]));
+            all.push(made.datagram(Server, packets));
+            let (follower, rows) = rows_of(&[&made], &all);
+            assert_eq!((rows.opened(0), rows.unopened.len(), rows.rests.len()), (8 + front, 0, 0), "{front}");
+            assert_eq!((follower.counts().offloaded, follower.counts().segments), (1, 4 + front as u64), "{front}");
+        }
+    }
     // All of them are shorter than a datagram usually is.
     let mut made = Made::new(1);
     let mut all = made.handshake();
@@ -292,6 +394,19 @@ fn stateless_resets() {
         let (_, last) = connection.times();
         assert_eq!(connection.ended(last + 20_000_000_000), Some(Ended::Reset));
     }
+}
+
+// A close in an Initial packet that anyone has made who saw the client's first one: the server goes on.
+#[test]
+fn a_close_of_anyone() {
+    let mut made = Made::new(1);
+    let mut all = made.handshake();
+    all.insert(1, made.clone().send(Server, Initial, &[0x1c, 0, 0, 0]));
+    made.time += 20_000_000_000;
+    all.push(made.send(Client, Short, PING));
+    let (follower, rows) = rows_of(&[&made], &all);
+    assert_eq!((rows.opened(0), &rows.unopened[..]), (6, &[][..]));
+    assert!(follower.connections().next().unwrap().end(Server).closed().is_none());
 }
 
 #[test]

@@ -146,6 +146,14 @@ fn initial_packets_of_anyone() {
     }
 }
 
+// Initial packets of the client in another version, which begin another connection of the same ids.
+#[test]
+fn initial_packets_of_another_version() {
+    let (first, there) = (opened()[0].clone(), datagrams()[0].clone());
+    let bytes = Sealer::new(VERSION_2, &first.dcid).seal(&Plain { number: 7, ..first });
+    with_forged(|kept, _| Some(Kept { bytes: bytes.clone(), from: there.from, to: there.to, ..kept.clone() }));
+}
+
 // Connections that anyone began, whose ids are the client's with any further byte. So each packet to it may be one of
 // theirs, also if it has no id.
 #[test]

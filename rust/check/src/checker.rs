@@ -111,6 +111,8 @@ impl Facts {
         let Pending { finding, claim, due, is_proven } = pending;
         let (sender, spaces) = (finding.sender, claim.spaces());
         let is_closed = connection.end(sender).closed().or(connection.end(!sender).closed()).is_some();
+        // The id before may be issued a bit later.
+        let due = due.or(matches!(claim, Claim::Gap(_)).then(|| finding.time.saturating_add(GRACE)));
         if history.is_full {
             return Some(Need::Room);
         }
@@ -396,7 +398,7 @@ impl Sink for Checker {
             Event::Again(opened, _) => {
                 self.begin_unsure(connection, opened.sender(), datagram);
                 self.event(connection, datagram, opened, event);
-                self.history(connection).take_destination(opened);
+                self.history(connection).take_again(datagram, opened);
             }
             Event::Parameters { opened, list, .. } => {
                 self.event(connection, datagram, opened, event);
@@ -435,9 +437,9 @@ impl Sink for Checker {
                 Check::Retry(check) => Some(check(about, packet)),
                 _ => None,
             });
-            self.history(connection).take_retry(packet);
-        } else if why == Unopened::InvalidRetry {
-            self.history(connection).take_other_retry(packet);
+        }
+        if matches!(why, Unopened::Retry | Unopened::InvalidRetry) {
+            self.history(connection).take_retry(packet, why == Unopened::Retry);
         }
     }
 

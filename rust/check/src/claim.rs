@@ -121,9 +121,10 @@ impl Claim {
                 history.peer(address).is_some_and(|peer| !peer.is_valid && bytes > peer.received.saturating_mul(3))
             }
             Claim::Destination(id) => !peer.sources.contains(&id) && !is_issued(connection, !sender, &id),
-            Claim::Unconfirmed => is_unconfirmed(connection, history, sender),
+            Claim::Unconfirmed => is_unconfirmed(history, sender),
+            // The packet that was acknowledged may be in the file after that.
             Claim::Update { updates, since } => {
-                let acknowledged = connection.end(sender).acknowledged(SpaceId::Data);
+                let acknowledged = history.half(sender).acknowledged[SpaceId::Data as usize].max();
                 peer.updates() < updates && acknowledged.is_none_or(|largest| largest < since)
             }
         }
@@ -133,10 +134,10 @@ impl Claim {
 /// Whether nothing shows a side that the handshake is confirmed (RFC 9001, section 4.1.2): to a server the client's last
 /// message, which is in a Handshake packet; to a client HANDSHAKE_DONE, or an ACK in a 1-RTT packet. Nor has its peer
 /// updated the keys.
-pub(crate) fn is_unconfirmed(connection: &Connection, history: &History, side: Side) -> bool {
+pub(crate) fn is_unconfirmed(history: &History, side: Side) -> bool {
     let peer = history.half(!side);
     let is_shown = match side {
-        Side::Client => peer.has_done() || connection.end(side).acknowledged(SpaceId::Data).is_some(),
+        Side::Client => peer.has_done() || !history.half(side).acknowledged[SpaceId::Data as usize].is_empty(),
         Side::Server => peer.has_handshake(),
     };
     !is_shown && peer.updates() == 0

@@ -49,8 +49,8 @@ pub struct Report {
     pub findings: Vec<Finding>,
     /// How often a rule had to be silent, by its name and what was missing.
     pub unchecked: BTreeMap<(&'static str, Need), u64>,
-    /// How many findings there were beyond [`MOST_GROUPS`] groups.
-    pub further: u64,
+    /// How many findings there were beyond [`MOST_GROUPS`] groups, by the names of their rules.
+    pub further: BTreeMap<&'static str, u64>,
     /// How many connections were captured where, of those with an opened packet.
     pub taken: BTreeMap<Vantage, u64>,
 }
@@ -63,7 +63,7 @@ type Key = (usize, &'static str, Section, usize);
 pub(crate) struct Groups {
     by_key: BTreeMap<Key, Finding>,
     unchecked: BTreeMap<(&'static str, Need), u64>,
-    further: u64,
+    further: BTreeMap<&'static str, u64>,
     taken: BTreeMap<Vantage, u64>,
 }
 
@@ -78,7 +78,7 @@ impl Groups {
         let is_full = self.by_key.len() >= MOST_GROUPS;
         match self.by_key.get_mut(&key) {
             Some(first) => first.join(finding),
-            None if is_full => self.further += 1,
+            None if is_full => *self.further.entry(finding.rule.name).or_default() += 1,
             None => {
                 self.by_key.insert(key, finding);
             }

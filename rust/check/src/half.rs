@@ -70,6 +70,11 @@ impl Path {
     /// Counts one.
     pub(crate) fn take(&mut self, datagram: &Datagram<'_>) {
         self.count += 1;
+        self.compare(datagram);
+    }
+
+    /// Notes the addresses of one, or of a copy.
+    pub(crate) fn compare(&mut self, datagram: &Datagram<'_>) {
         self.has_others |= (self.from, self.to) != (datagram.from, datagram.to);
     }
 }
@@ -107,7 +112,7 @@ pub(crate) struct Half {
     pub(crate) max_streams: [u64; 2],
     /// The sequence numbers of its ids that its peer retired, with the least number of a packet in which it did so.
     pub(crate) retired: BTreeMap<u64, u64>,
-    /// Up to which its ids have to be retired, and the numbers of the packets that said so.
+    /// Up to which its ids have to be retired, and the numbers of the packets that said so, the first ones.
     pub(crate) prior: u64,
     pub(crate) prior_by: RangeSet,
     /// Up to which ids of its peer it knows that they have to be retired, and the number of its packet that shows it.
@@ -118,7 +123,7 @@ pub(crate) struct Half {
     pub(crate) challenges: HashMap<u64, Path>,
     /// The data of its PATH_RESPONSEs, and how many have them.
     pub(crate) responses: HashMap<u64, u64>,
-    /// The numbers of its packets with HANDSHAKE_DONE.
+    /// The numbers of its packets with HANDSHAKE_DONE, the first ones.
     pub(crate) dones: RangeSet,
     /// When it showed that it has discarded the keys of Initial and of Handshake packets.
     pub(crate) discarded: [Option<Moment>; 2],

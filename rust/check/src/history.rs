@@ -5,7 +5,7 @@ use crate::half::{Half, Moment, Path, Reset};
 use crate::tls::Messages;
 use crate::vantage::Vantage;
 use quic_wire::datagram::{HeaderKind, PacketRef};
-use quic_wire::frame::{Ack, Crypto, Frame};
+use quic_wire::frame::{Ack, Crypto, Frame, Iter};
 use quic_wire::ids::SpaceId;
 use quic_wire::range_set::RangeSet;
 use quic_wire::transport_parameters::{entries, known};
@@ -29,8 +29,13 @@ const MOST_PEERS: usize = 16;
 // Up to how many runs are inserted one by one.
 const FEW_RUNS: usize = 64;
 
-// How many bytes of CRYPTO data are remembered from before a Retry.
+// How many bytes of CRYPTO data are remembered from before a Retry, and in how many pieces.
 const MOST_HELLO: usize = 1 << 12;
+const MOST_PIECES: usize = 1 << 8;
+
+// How many runs are remembered of the numbers of packets with HANDSHAKE_DONE, and of those with a Retire Prior To: each
+// ACK is compared with them.
+const MOST_COMPARED: usize = 64;
 
 /// An address of the client, and the bytes of the datagrams that came from there and went there.
 #[derive(Clone, Copy, Debug)]
@@ -60,7 +65,6 @@ impl Token {
 }
 
 /// What a Retry said.
-#[derive(Clone, Copy)]
 pub(crate) struct Retry {
     pub(crate) id: ConnectionId,
     pub(crate) token: Token,
@@ -83,9 +87,10 @@ pub(crate) struct History {
     pub(crate) is_confirmed: bool,
     /// The client's addresses.
     peers: Vec<Peer>,
-    /// A Retry whose tag is right.
-    pub(crate) retry: Option<Retry>,
-    /// Whether the client sent a packet to the id of the Retry. Otherwise the Retry may not have come, or anyone's.
+    /// The Retries whose tags are right, each of another id.
+    retries: Vec<Retry>,
+    /// Whether the client sent a packet to the id of the first of them. Otherwise they may not have come, or be
+    /// anyone's.
     pub(crate) is_retried: bool,
     /// The version and the least number of the client's Initial packets with a token.
     pub(crate) first_token: Option<(u32, u64)>,
@@ -125,6 +130,13 @@ fn insert_all(set: &mut RangeSet, ack: &Ack<'_>) {
         merged.insert(run);
     }
     *set = merged;
+}
+
+// Inserts a number, if the set hasn't too many runs.
+fn insert_few(set: &mut RangeSet, number: u64) {
+    if set.len() < MOST_COMPARED {
+        set.insert_one(number);
+    }
 }
 
 /// The two low bits of a stream's id.
@@ -226,11 +238,12 @@ impl History {
         use HeaderKind::{Handshake, ZeroRtt};
         let (sender, packet) = (opened.sender(), opened.packet());
         let server_id = self.halves[Side::Server as usize].sources.first().copied();
+        // What a side sends is remembered of its peer, too.
+        self.is_full |= self.halves.iter().any(|half| half.is_full(most / 2));
         let half = &mut self.halves[sender as usize];
         if let Some(peer) = self.peers.iter_mut().find(|peer| peer.address == datagram.from) {
             peer.is_own = true;
         }
-        self.is_full |= half.is_full(most / 2);
         if packet.header().is_short() {
             half.least_short = Some(half.least_short.map_or(opened.number(), |least| least.min(opened.number())));
             half.add_phase(opened.updates(), opened.number());
@@ -285,31 +298,52 @@ impl History {
         }
     }
 
-    /// Takes note of a packet to the id of the Retry, also one whose number was used before.
-    pub(crate) fn take_destination(&mut self, opened: &Opened<'_>) {
+    /// Takes note of a packet whose number was used before. The network may have delivered it twice, and on a host that
+    /// is the client's NAT it is captured twice, with other addresses.
+    pub(crate) fn take_again(&mut self, datagram: &Datagram<'_>, opened: &Opened<'_>) {
+        self.take_destination(opened);
+        let challenges = &mut self.halves[opened.sender() as usize].challenges;
+        if challenges.is_empty() {
+            return;
+        }
+        for frame in Iter::new(opened.payload()).into_iter().flatten().map_while(Result::ok) {
+            let Frame::PathChallenge(data) = frame else { continue };
+            if let Some(path) = challenges.get_mut(&data) {
+                path.compare(datagram);
+            }
+        }
+    }
+
+    // Takes note of a packet to the id of a Retry.
+    fn take_destination(&mut self, opened: &Opened<'_>) {
         let packet = opened.packet();
         let is_bound = !self.is_retried && opened.sender() == Side::Client && !packet.header().is_short();
-        if is_bound && self.retry.is_some_and(|retry| *retry.id == *packet.dst_cid()) {
+        let taken = self.retries.iter().position(|retry| *retry.id == *packet.dst_cid()).filter(|_| is_bound);
+        if let Some(place) = taken {
+            self.retries.swap(0, place);
             self.is_retried = true;
             // Its CRYPTO data begin again.
             self.halves[Side::Client as usize].messages[SpaceId::Initial as usize] = Messages::default();
         }
     }
 
-    /// Takes a Retry whose tag is right.
-    pub(crate) fn take_retry(&mut self, packet: &PacketRef<'_>) {
-        if let Some((token, _)) = packet.header().retry(packet.data()) {
-            let (id, version) =
-                (ConnectionId::try_from(packet.src_cid()).unwrap_or_default(), packet.header().version());
-            self.retry = Some(Retry { id, token: Token::of(token), version, has_other_token: false });
+    /// Takes a Retry, also one that came too late or whose tag is wrong.
+    pub(crate) fn take_retry(&mut self, packet: &PacketRef<'_>, is_right: bool) {
+        let Some((token, _)) = packet.header().retry(packet.data()) else { return };
+        let (token, version) = (Token::of(token), packet.header().version());
+        let id = ConnectionId::try_from(packet.src_cid()).unwrap_or_default();
+        match self.retries.iter_mut().find(|retry| retry.id == id) {
+            Some(retry) => retry.has_other_token |= retry.token != token,
+            None if is_right => self.retries.push(Retry { id, token, version, has_other_token: false }),
+            None => {}
         }
     }
 
-    /// Takes a Retry after that, or one whose tag is wrong.
-    pub(crate) fn take_other_retry(&mut self, packet: &PacketRef<'_>) {
-        let Some((token, _)) = packet.header().retry(packet.data()) else { return };
-        if let Some(retry) = self.retry.as_mut().filter(|retry| *retry.id == *packet.src_cid()) {
-            retry.has_other_token |= retry.token != Token::of(token);
+    /// The Retry after which a client sends to an id: the one that it took, or else that of the id.
+    pub(crate) fn retry_for(&self, id: &[u8]) -> Option<&Retry> {
+        match self.is_retried {
+            true => self.retries.first(),
+            false => self.retries.iter().find(|retry| *retry.id == *id),
         }
     }
 
@@ -321,9 +355,12 @@ impl History {
             half.crypto_version = Some(opened.packet().header().version());
         }
         let is_first = opened.sender() == Side::Client && *opened.packet().dst_cid() == **connection.first_dcid();
-        let may_retry = connection.end(Side::Server).first_scid().is_none();
+        let may_retry = connection.end(Side::Server).first_scid().is_none() && opened.space() == SpaceId::Initial;
+        if !is_first || !may_retry || crypto.bytes.is_empty() || self.hello.len() >= MOST_PIECES {
+            return;
+        }
         let len: usize = self.hello.iter().map(|(_, bytes)| bytes.len()).sum();
-        if is_first && may_retry && opened.space() == SpaceId::Initial && len + crypto.bytes.len() <= MOST_HELLO {
+        if len + crypto.bytes.len() <= MOST_HELLO {
             self.hello.push((crypto.offset, crypto.bytes.to_vec()));
         }
     }
@@ -368,7 +405,7 @@ impl History {
                     (own.prior, own.prior_by) = (new.retire_prior_to, RangeSet::new());
                 }
                 if new.retire_prior_to == own.prior && own.prior > 0 {
-                    own.prior_by.insert_one(number);
+                    insert_few(&mut own.prior_by, number);
                 }
             }
             Frame::RetireConnectionId { sequence } => {
@@ -396,7 +433,7 @@ impl History {
             }
             Frame::HandshakeDone => {
                 self.is_confirmed = true;
-                own.dones.insert_one(number);
+                insert_few(&mut own.dones, number);
                 own.discarded[SpaceId::Handshake as usize].get_or_insert(Moment::of(datagram));
             }
             _ => {}

@@ -7,7 +7,8 @@ mod made;
 mod talk;
 
 use common::Kept;
-use made::{Client, Initial, Server};
+use made::{Client, Handshake, Initial, Server, crypto};
+use quic_wire::packet::VERSION_2;
 use quic_wire::{ConnectionId, VarInt};
 use quic_wire_check::rule::Need;
 use std::net::SocketAddr;
@@ -105,6 +106,86 @@ fn the_token_of_another_retry() {
     with(&[b"first"]).finds("initial-token", "RFC 9000, section 8.1.2", 2);
 }
 
+// Section 17.2.5.2: a client takes one of several Retries with ids of their own, and the others may have been lost. The
+// packet that shows which one it took may be in the file after the server's answer.
+#[test]
+fn the_id_of_another_retry() {
+    let with = |token: &[u8], is_late: bool| {
+        let mut talk = Talk::new();
+        let hello = talk.client_hello();
+        talk.send(Client, Initial, &hello);
+        let lost = talk.made.clone().retry_with(b"lost", b"other");
+        talk.all.push(lost);
+        let retry = talk.made.retry(b"retried");
+        talk.all.push(retry);
+        talk.parameters[Server as usize].retry_src_cid = Some(ConnectionId::new(b"retried"));
+        talk.made.token = token.to_vec();
+        talk.send(Client, Initial, &hello).server_flight();
+        if is_late {
+            talk.all[3..].rotate_left(1);
+        }
+        talk.client_flight().confirm();
+        talk
+    };
+    with(b"token", false).finds_nothing();
+    with(b"token", true).finds_nothing();
+    with(b"other", false).finds("initial-token", "RFC 9000, section 8.1.2", 3);
+}
+
+// RFC 9369, section 4.1: after a Retry of version 1 the server answers with version 2. Its packets aren't in the
+// capture, and the client's acknowledge them.
+#[test]
+fn an_answer_that_is_missing() {
+    let mut talk = Talk::new();
+    let hello = talk.client_hello();
+    talk.send(Client, Initial, &hello);
+    let retry = talk.made.retry(b"retried");
+    talk.all.push(retry);
+    talk.parameters[Server as usize].retry_src_cid = Some(ConnectionId::new(b"retried"));
+    talk.send(Client, Initial, &hello).made.version = VERSION_2;
+    let index = talk.next();
+    talk.server_flight().all.remove(index);
+    talk.client_flight().confirm().later().finds_nothing();
+}
+
+// RFC 9368, section 4: half of the ClientHello isn't in the capture, and comes again with a packet of the version that
+// the server has chosen.
+#[test]
+fn a_hello_that_is_whole_late() {
+    let mut talk = Talk::new();
+    let versions = [1u32, VERSION_2, 1].map(u32::to_be_bytes).concat();
+    talk.more[Client as usize] = [&[0x11, 12][..], &versions].concat();
+    let message = talk.client_message();
+    let [front, back] = [crypto(0, &message[..50]), crypto(50, &message[50..])];
+    talk.send(Client, Initial, &padded(&front, 1200)).send(Client, Initial, &padded(&back, 1200)).all.pop();
+    talk.made.version = VERSION_2;
+    talk.server_flight().send(Client, Initial, &padded(&back, 1200));
+    talk.client_flight().confirm().later().finds_nothing();
+}
+
+// Section 18.2: datagrams of one size, and a shorter one, that the network card cuts apart or has joined. The client
+// permits 1,300 bytes.
+#[test]
+fn joined_datagrams() {
+    let with = |sizes: &[usize]| {
+        let mut talk = Talk::new();
+        talk.parameters[Client as usize].max_udp_payload_size = VarInt::from_u32(1300);
+        let hello = talk.client_hello();
+        talk.send(Client, Initial, &hello).server_flight();
+        let overhead = talk.made.clone().packet(Server, Handshake, &[0; 100]).len() - 100;
+        for size in sizes {
+            let packet = talk.made.packet(Server, Handshake, &padded(PING, size - overhead));
+            talk.all[1].bytes.extend(packet);
+        }
+        talk.client_flight().confirm().later();
+        talk
+    };
+    with(&[1200, 700]).finds_nothing();
+    // The last one is too long, or the first isn't whole.
+    with(&[1201]).finds("payload-size", "RFC 9000, section 18.2", 1);
+    with(&[1100, 1200]).finds("payload-size", "RFC 9000, section 18.2", 1);
+}
+
 // Section 8.2.2: a PATH_CHALLENGE that comes twice with the same data, which section 8.2.1 forbids, is answered twice.
 #[test]
 fn answers_to_a_challenge_that_came_twice() {
@@ -145,8 +226,13 @@ fn packets_on_both_sides_of_a_nat() {
         false => [Kept { to: outside, ..one.clone() }, one.clone()],
     };
     let all: Vec<_> = talk.all.iter().flat_map(twice).collect();
-    let report = report_of(talk.made.key_log().as_bytes(), &all);
-    assert!(report.findings.is_empty(), "{:#?}", report.findings);
+    // Any of the records may be missing.
+    for missing in 0..=all.len() {
+        let there = all.iter().enumerate().filter(|(index, _)| *index != missing);
+        let there: Vec<_> = there.map(|(_, kept)| kept.clone()).collect();
+        let report = report_of(talk.made.key_log().as_bytes(), &there);
+        assert!(report.findings.is_empty(), "{missing}: {:#?}", report.findings);
+    }
 }
 
 // A client that moves sends an ACK first, so its address is known by more than copies.

@@ -2,12 +2,20 @@
 //! The variable ROUNDS of the environment makes it longer.
 #[path = "../../capture/tests/common/mod.rs"]
 mod common;
+#[path = "../../capture/tests/common/made.rs"]
+mod made;
+#[path = "common/talk.rs"]
+mod talk;
 
 use common::{CAPTURE, KEYS, Kept, Plain, Random, Sealer, datagrams, opened};
+use made::{Client, Initial, Server};
+use quic_wire::packet::PacketNumber;
 use quic_wire_capture::capture::{Capture, Item};
 use quic_wire_capture::follow::Follower;
 use quic_wire_check::checker::Checker;
 use quic_wire_check::finding::Report;
+use std::time::{Duration, Instant};
+use talk::Talk;
 
 fn rounds() -> u64 {
     std::env::var("ROUNDS").ok().and_then(|text| text.parse().ok()).unwrap_or(200)
@@ -87,4 +95,50 @@ fn authentic_packets_with_any_contents() {
         findings += checker.finish(&mut follower).findings.len();
     }
     assert!(findings > 0);
+}
+
+// How long the datagrams from an index on take.
+fn time_from(talk: &Talk, index: usize) -> Duration {
+    let (mut follower, mut checker) = (Follower::default(), Checker::default());
+    follower.keylog.add(talk.made.key_log().as_bytes());
+    let (before, after) = talk.all.split_at(index);
+    before.iter().for_each(|kept| checker.take(&kept.datagram(), &mut follower));
+    let begun = Instant::now();
+    after.iter().for_each(|kept| checker.take(&kept.datagram(), &mut follower));
+    begun.elapsed()
+}
+
+// CRYPTO frames without bytes: those of the twelfth packet take about as long as those of the first.
+#[test]
+fn crypto_frames_without_bytes() {
+    let mut talk = Talk::new();
+    let frames = [6, 0, 0].repeat(5000);
+    talk.send(Client, Initial, &frames);
+    let first = time_from(&talk, 0);
+    for _ in 0..11 {
+        talk.send(Client, Initial, &frames);
+    }
+    let last = time_from(&talk, 11);
+    assert!(last < 4 * first, "the first takes {first:?}, the last {last:?}");
+}
+
+// ACKs of a packet that has no HANDSHAKE_DONE, while many have one: it takes about as long as if none had.
+#[test]
+fn acks_among_many_packets() {
+    let with = |dones: u32| {
+        let mut talk = Talk::new();
+        let hello = talk.client_hello();
+        talk.send(Client, Initial, &hello).server_flight().client_flight();
+        for number in (1..=dones).map(|number| 2 * number).chain([9000]) {
+            let payload = if number == 9000 { talk::PING } else { &[0x1e] };
+            talk.sealed(Server, number.into(), PacketNumber::U32(number), 0, payload);
+        }
+        let index = talk.next();
+        for _ in 0..3 {
+            talk.short(Client, &[2, 11, 0, 0, 0].repeat(10_000));
+        }
+        time_from(&talk, index)
+    };
+    let (without, with) = (with(0), with(4000));
+    assert!(with < 8 * without, "{without:?} without them, {with:?} with them");
 }

@@ -154,6 +154,23 @@ fn what_permits_a_key_update() {
     talk.is_silent("second-update", Need::PeerPackets);
 }
 
+// RFC 9001, section 6.2: none of the client's packets before its second update is in the capture.
+#[test]
+fn updates_that_are_missing() {
+    let mut talk = Talk::open();
+    let index = talk.next();
+    talk.made.updates = [1, 0];
+    talk.short(Client, PING).made.updates = [1, 1];
+    let last = talk.made.numbers[0][2] - 1;
+    talk.short(Server, &talk::all_to(last)).made.updates = [2, 1];
+    talk.short(Client, PING).made.updates = [2, 2];
+    talk.later().finds_nothing();
+    talk.all.remove(index);
+    // That of the handshake's end.
+    talk.all.remove(index - 2);
+    talk.finds_nothing();
+}
+
 // RFC 9001, section 6.2: the first packet with new keys is lost, and the second one is acknowledged with old keys.
 #[test]
 fn a_lost_packet_with_new_keys() {

@@ -70,6 +70,19 @@ impl Whole<'_> {
         self.report.findings.iter().filter(is_counted).count() as u64
     }
 
+    // Whether a MUST is broken that may not be, also by what isn't kept.
+    fn is_broken(&self) -> bool {
+        let is_must = |name: &str| rules::find(name).is_some_and(|rule| rule.level == Level::Must);
+        let is_allowed = |name: &str| self.allowed.iter().any(|(rule, _)| rule == name);
+        let mut further = self.report.further.keys();
+        self.broken(Level::Must) > 0 || further.any(|name| is_must(name) && !is_allowed(name))
+    }
+
+    // How many findings aren't kept.
+    fn further(&self) -> u64 {
+        self.report.further.values().sum()
+    }
+
     // How many rules are broken that may be.
     fn allowed(&self) -> u64 {
         self.report.findings.iter().filter(|finding| self.reason(finding).is_some()).count() as u64
@@ -193,7 +206,28 @@ impl Taker for Check<'_> {
         }
         let (begun, counts, rules) = (self.begun.unwrap_or_default(), follower.counts(), self.rules.len());
         let whole = Whole { begun, report: &report, capture, counts, rules, allowed: self.allowed };
-        self.is_broken |= whole.broken(Level::Must) > 0;
+        self.is_broken |= whole.is_broken();
         self.form.capture(self.name, &whole);
+    }
+}
+
+#[cfg(test)]
+mod tests {
+    use super::*;
+    use std::collections::BTreeMap;
+
+    // There is no room for more findings of a rule, as of one that may be broken in each of many connections.
+    #[test]
+    fn findings_that_are_not_kept() {
+        let (capture, counts) = (Capture::default(), Counts::default());
+        let allowed = [("path-size".into(), "known".into())];
+        let is_broken = |rule: &'static str| {
+            let report = Report { further: BTreeMap::from([(rule, 1)]), ..Report::default() };
+            let (begun, rules, allowed) = (0, 1, &allowed[..]);
+            Whole { begun, report: &report, capture: &capture, counts: &counts, rules, allowed }.is_broken()
+        };
+        assert!(is_broken("final-size"));
+        assert!(!is_broken("path-size"), "it may be broken");
+        assert!(!is_broken("payload-size"), "it is no MUST");
     }
 }

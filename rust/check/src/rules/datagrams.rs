@@ -4,7 +4,7 @@ use crate::about::About;
 use crate::claim::Claim;
 use crate::rule::{Broken, Check, Checked, History, Need, Rule};
 use quic_wire::Side;
-use quic_wire::datagram::{HeaderKind, receiver_id};
+use quic_wire::datagram::{HeaderChecks, HeaderKind, Packets, receiver_id};
 use quic_wire::ids::MIN_INITIAL_SIZE;
 use quic_wire::packet::LONG_HEADER_FORM;
 use quic_wire_capture::keys::VERSIONS;
@@ -12,6 +12,9 @@ use quic_wire_capture::opened::Opened;
 
 // An id of fewer bytes may be there by chance.
 const LEAST_ID: usize = 4;
+
+// A datagram of more bytes may be several, which the network card cuts apart or has joined.
+const MOST_USUAL: usize = 1500;
 
 const PATH_AMPLIFICATION: &[Need] =
     &[Need::Begin, Need::PeerPackets, Need::OwnPackets, Need::NoEarlyData, Need::NoStrays, Need::Order, Need::End];
@@ -103,12 +106,28 @@ fn payload_size(about: &About<'_>) -> Checked {
     let (size, most) = (about.size() as u64, about.limits()?.max_udp_payload_size.into_inner());
     // A client knows the parameter once it sends 1-RTT packets; what it sent before may come later.
     let is_long = about.datagram.bytes.first().is_some_and(|first| first & LONG_HEADER_FORM != 0);
-    if size <= most || about.sender == Side::Client && is_long {
+    let is_allowed = size <= most || about.sender == Side::Client && is_long;
+    if is_allowed || sizes(about).into_iter().any(|size| size as u64 <= most) {
         return Ok(None);
     }
     Broken::new(format!("a datagram of {size} bytes"), format!("at most {most}, the peer's max_udp_payload_size"))
         .at(0)
         .found()
+}
+
+// The sizes of the datagrams that one may be: all but the last have one size, and each begins with a packet. Those with
+// short headers are cut apart by then, since only one size opens them.
+fn sizes(about: &About<'_>) -> Vec<usize> {
+    let (bytes, checks) = (about.datagram.bytes, HeaderChecks { grease_quic_bit: true, ..HeaderChecks::RFC });
+    if about.size() <= MOST_USUAL {
+        return Vec::new();
+    }
+    let id_len = about.peer().first_scid().map_or(0, |id| id.len());
+    let packets = Packets::with_checks(bytes, id_len, &VERSIONS, checks).map_while(Result::ok);
+    let begins: Vec<_> = packets.map(|packet| packet.place().range().start).collect();
+    let is_begin = |at: usize| begins.binary_search(&at).is_ok();
+    let fits = |size: &usize| *size > 0 && (*size..bytes.len()).step_by(*size).all(is_begin);
+    begins.iter().copied().filter(fits).collect()
 }
 
 // Bytes that are no packet may follow, so this one needs an id that the receiver chose.
@@ -124,7 +143,7 @@ fn coalesced_ids(about: &About<'_>, offset: usize) -> Checked {
     } else {
         about.peer().ids().any(|(_, id, _)| id.len() >= LEAST_ID && behind.starts_with(id))
     };
-    if !is_packet {
+    if !is_packet || sizes(about).into_iter().any(|size| offset % size == 0) {
         return Ok(None);
     }
     Broken::new("a packet with another Destination Connection ID", "that of the datagram's first packet")

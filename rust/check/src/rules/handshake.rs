@@ -74,9 +74,9 @@ fn retry_hello(about: &About<'_>, opened: &Opened<'_>, held: &Held<'_>) -> Check
     let same = |(offset, bytes): &(u64, Vec<u8>)| {
         let begin = crypto.offset.max(*offset);
         let [one, two] = [(crypto.offset, crypto.bytes), (*offset, &bytes[..])]
-            .map(|(offset, bytes)| bytes.get((begin - offset) as usize..).unwrap_or_default());
-        let pairs = one.iter().zip(two);
-        pairs.into_iter().all(|(one, two)| one == two)
+            .map(|(offset, bytes)| usize::try_from(begin - offset).ok().and_then(|at| bytes.get(at..)));
+        let mut pairs = one.unwrap_or_default().iter().zip(two.unwrap_or_default());
+        pairs.all(|(one, two)| one == two)
     };
     if about.history.hello.iter().all(same) {
         return Ok(None);
@@ -124,7 +124,7 @@ fn tls_message(about: &About<'_>, opened: &Opened<'_>, held: &Held<'_>) -> Check
 
 // The last message of the client's handshake is in a Handshake packet.
 fn early_done(about: &About<'_>, _: &Opened<'_>, held: &Held<'_>) -> Checked {
-    if !is_unconfirmed(about.connection, about.history, about.sender) {
+    if !is_unconfirmed(about.history, about.sender) {
         return Ok(None);
     }
     Broken::new("HANDSHAKE_DONE before any Handshake packet of the client", "none before the handshake is complete")

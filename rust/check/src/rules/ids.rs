@@ -40,7 +40,7 @@ pub(super) static RULES: &[Rule] = &[
         "The sequence number of a new id is one greater than that before.",
         Check::Frame(Types::NEW_CONNECTION_ID, id_sequence),
     )
-    .with(History::Whole, &[Need::Begin, Need::OwnPackets, Need::OwnNumbers, Need::NoEarlyData]),
+    .with(History::Whole, &[Need::Begin, Need::OwnPackets, Need::OwnNumbers, Need::NoEarlyData, Need::End]),
     Rule::must(
         "token-twice",
         "10.3",

@@ -106,7 +106,7 @@ fn old_keys(about: &About<'_>, opened: &Opened<'_>) -> Checked {
 // A packet of the peer with such keys, which the side answers, may be in the file a bit later.
 fn early_update(about: &About<'_>, opened: &Opened<'_>) -> Checked {
     let is_first = opened.updates() > 0 && about.own_half().updates() == 0;
-    if !is_first || !is_unconfirmed(about.connection, about.history, about.sender) {
+    if !is_first || !is_unconfirmed(about.history, about.sender) {
         return Ok(None);
     }
     let before = match about.sender {

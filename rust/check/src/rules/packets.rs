@@ -95,7 +95,7 @@ pub(super) static RULES: &[Rule] = &[
         "retry-version",
         "4.1",
         "After a Retry the client goes on with the Retry's version.",
-        Check::Packet(retry_version),
+        Check::Done(retry_version),
     )
     .of(9369)
     .with(History::Before, &[Need::Begin]),
@@ -170,8 +170,8 @@ fn destination_id(about: &About<'_>, opened: &Opened<'_>) -> Checked {
         return Ok(None);
     }
     let Ok(id) = ConnectionId::try_from(packet.dst_cid()) else { return Ok(None) };
-    let of_client = [Some(connection.first_dcid()), connection.retry_id()];
-    let is_of_client = about.sender == Side::Client && of_client.contains(&Some(&id));
+    let of_client = *connection.first_dcid() == id || connection.retry_ids().contains(&id);
+    let is_of_client = about.sender == Side::Client && of_client;
     if is_of_client || sources.contains(&id) || is_issued(connection, !about.sender, &id) {
         return Ok(None);
     }
@@ -183,13 +183,11 @@ fn destination_id(about: &About<'_>, opened: &Opened<'_>) -> Checked {
         .found()
 }
 
-// A Version Negotiation lets a client begin anew.
 fn other_source(about: &About<'_>, opened: &Opened<'_>) -> Option<Broken> {
     let header = opened.packet().header();
     let first = about.own_half().sources.first().filter(|_| !header.is_short())?;
-    let is_anew = opened.kind() == HeaderKind::Initial && header.version() != about.connection.version();
     // A server that keeps no state closes each time from another id.
-    if *opened.packet().src_cid() == **first || is_anew || about.current.has_close {
+    if *opened.packet().src_cid() == **first || about.current.has_close {
         return None;
     }
     let id = ConnectionId::try_from(opened.packet().src_cid()).unwrap_or_default();
@@ -209,11 +207,8 @@ fn source_after_retry(about: &About<'_>, opened: &Opened<'_>) -> Checked {
     Ok(other_source(about, opened).filter(|_| is_after_retry(about)))
 }
 
-// After a Version Negotiation a client begins anew with another version, perhaps with the same ids.
 fn number_reuse(about: &About<'_>, opened: &Opened<'_>, before: &Sent) -> Checked {
-    let version = opened.packet().header().version();
-    let is_anew = opened.kind() == HeaderKind::Initial && version != about.connection.version();
-    if is_anew || opened.tag() == before.tag || is_other_close(about, opened) {
+    if opened.tag() == before.tag || is_other_close(about, opened) {
         return Ok(None);
     }
     let seen = format!("packet number {} again, with other contents than in record {}", opened.number(), before.record);
@@ -230,11 +225,16 @@ fn is_other_close(about: &About<'_>, opened: &Opened<'_>) -> bool {
     is_other && opened.kind() == HeaderKind::Initial && frames.any(|frame| matches!(frame, Frame::Close(_)))
 }
 
-/// Whether a client sends a packet to another id than its first one after a Retry that it took: one to that id shows it.
-pub(super) fn is_to_retry(about: &About<'_>, opened: &Opened<'_>) -> bool {
+// The Retry that a client took, if it sends a packet to another id than its first one after that: one to the Retry's id
+// shows it.
+fn retry_of<'a>(about: &About<'a>, opened: &Opened<'_>) -> Option<&'a Retry> {
     let (first, to) = (about.connection.first_dcid(), opened.packet().dst_cid());
-    let retry = about.history.retry.filter(|_| about.sender == Side::Client && *to != **first);
-    retry.is_some_and(|retry| about.history.is_retried || *to == *retry.id)
+    about.history.retry_for(to).filter(|_| about.sender == Side::Client && *to != **first)
+}
+
+/// Whether there is one.
+pub(super) fn is_to_retry(about: &About<'_>, opened: &Opened<'_>) -> bool {
+    retry_of(about, opened).is_some()
 }
 
 fn number_length(about: &About<'_>, opened: &Opened<'_>) -> Checked {
@@ -291,12 +291,12 @@ fn token_at(opened: &Opened<'_>) -> usize {
 }
 
 fn initial_token(about: &About<'_>, opened: &Opened<'_>) -> Checked {
-    let retry = about.history.retry.filter(|_| opened.kind() == HeaderKind::Initial && is_to_retry(about, opened));
+    let retry = retry_of(about, opened).filter(|_| opened.kind() == HeaderKind::Initial);
     let given = Token::of(opened.packet().token());
     let Some(Retry { token, has_other_token, .. }) = retry.filter(|retry| retry.token != given) else {
         return Ok(None);
     };
-    if has_other_token {
+    if *has_other_token {
         return Err(Need::Time);
     }
     let seen = if given.len == 0 { "no token".into() } else { format!("another token, of {} bytes", given.len) };
@@ -314,10 +314,12 @@ fn token_kept(about: &About<'_>, opened: &Opened<'_>) -> Checked {
     Broken::new("no token", format!("one, as in packet {number}")).at(token_at(opened)).found()
 }
 
-// Once the server has answered, versions may change again (RFC 9368).
+// Once the server has answered, versions may change again (RFC 9368). An answer that isn't in the capture, or comes
+// late in it, shows by its acknowledgment.
 fn retry_version(about: &About<'_>, opened: &Opened<'_>) -> Checked {
-    let is_next = is_to_retry(about, opened) && about.peer().first_scid().is_none();
-    let Some(retry) = about.history.retry.filter(|_| is_next) else { return Ok(None) };
+    let is_acknowledged = !about.peer_half().acknowledged[SpaceId::Initial as usize].is_empty();
+    let is_next = about.peer().first_scid().is_none() && !is_acknowledged;
+    let Some(retry) = retry_of(about, opened).filter(|_| is_next) else { return Ok(None) };
     let version = opened.packet().header().version();
     if opened.kind() != HeaderKind::Initial || version == retry.version {
         return Ok(None);

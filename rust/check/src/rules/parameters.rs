@@ -108,7 +108,8 @@ fn version_information(_: &About<'_>, _: &Opened<'_>, list: &[u8]) -> Checked {
 fn chosen_version(about: &About<'_>, opened: &Opened<'_>, list: &[u8]) -> Checked {
     let Some((chosen, _)) = versions_of(list).and_then(versions::read) else { return Ok(None) };
     let version = opened.packet().header().version();
-    if chosen == version || chosen == about.connection.version() {
+    let is_first = about.sender == Side::Client && about.history.original_version == Some(chosen);
+    if is_first || chosen == version || chosen == about.connection.version() {
         return Ok(None);
     }
     Broken::new(format!("the chosen version {chosen:#x}"), format!("{version:#x}, the version of the packet")).found()
@@ -147,6 +148,11 @@ fn original_destination(about: &About<'_>, given: &TransportParameters) -> Check
 
 fn retry_source(about: &About<'_>, given: &TransportParameters) -> Checked {
     if about.sender == Side::Client {
+        return Ok(None);
+    }
+    // Of several Retries the packet that shows which one the client took may come late.
+    let (retry_ids, is_open) = (about.connection.retry_ids(), !about.history.is_retried);
+    if given.retry_src_cid.is_some_and(|id| is_open && retry_ids.contains(&id)) {
         return Ok(None);
     }
     unless_retried(compared("retry_source_connection_id", given.retry_src_cid.as_ref(), about.connection.retry_id()))

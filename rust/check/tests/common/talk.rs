@@ -146,6 +146,16 @@ impl Talk {
         message(2, &front, &[(VERSIONS.0, &[3, 4])])
     }
 
+    /// The server's messages after that.
+    pub fn end_of_server(&self) -> Vec<u8> {
+        [self.encrypted_extensions(), finished(Server)].concat()
+    }
+
+    /// The client's last message.
+    pub fn end_of_client(&self) -> Vec<u8> {
+        finished(Client)
+    }
+
     fn encrypted_extensions(&self) -> Vec<u8> {
         message(8, &[], &[PROTOCOL, (PARAMETERS, &self.list(Server))])
     }

@@ -1,6 +1,6 @@
 //! Objects for programs, a line each: docs/capture.schema.json of the repository describes them.
 use super::object::Object;
-use super::report::{Fault, Form, Packet, Part, Place, Sum, Tally, Whole, is_plain};
+use super::report::{Fault, Form, Packet, Part, Place, Sum, Whole, is_plain};
 use super::screen::Lines;
 use super::words::{self, Date, Said, Seconds};
 use crate::datagram;
@@ -157,8 +157,8 @@ fn unopened(object: &mut Object<'_>, counts: &BTreeMap<Unopened, u64>) {
     });
 }
 
-fn half(object: &mut Object<'_>, tally: &Tally, side: Side) {
-    let half = &tally.sides[side as usize];
+fn half(object: &mut Object<'_>, sum: &Sum<'_>, side: Side) {
+    let (connection, half) = (sum.connection, &sum.tally.sides[side as usize]);
     if let Some((first, last)) = half.addresses {
         object.word("first_address", &first.to_string());
         object.word("last_address", &last.to_string());
@@ -167,7 +167,7 @@ fn half(object: &mut Object<'_>, tally: &Tally, side: Side) {
     object.number("lost", half.lost);
     object.number("lost_but_acknowledged", half.lost_in_vain);
     unopened(object, &half.unopened);
-    if let Some(said) = &half.close {
+    if let Some(said) = half.close.as_ref().filter(|_| connection.end(side).closed().is_some()) {
         object.inner("close", |object| {
             object.flag("by_application", said.by_application);
             close(object, said);
@@ -177,7 +177,7 @@ fn half(object: &mut Object<'_>, tally: &Tally, side: Side) {
 
 // How a connection ended, in a word.
 fn how(sum: &Sum<'_>) -> &'static str {
-    let is_closed = sum.tally.sides.iter().any(|half| half.close.is_some());
+    let is_closed = [Side::Client, Side::Server].iter().any(|side| sum.connection.end(*side).closed().is_some());
     match sum.how {
         _ if is_closed => "closed",
         _ if sum.tally.reset.is_some() => "reset",
@@ -260,8 +260,8 @@ impl<L: Lines> Form for Json<L> {
             for (name, time) in [("begin", first), ("last", last)] {
                 object.plain(name, format_args!("{:#}", Seconds(words::after(sum.begun, time))));
             }
-            object.inner("client", |object| half(object, sum.tally, Side::Client));
-            object.inner("server", |object| half(object, sum.tally, Side::Server));
+            object.inner("client", |object| half(object, sum, Side::Client));
+            object.inner("server", |object| half(object, sum, Side::Server));
             object.word("how", how(sum));
             object.word("end", &words::ended(sum));
         });

@@ -107,7 +107,7 @@ pub struct Half {
     pub lost_in_vain: u64,
     /// From where it sent first, and last.
     pub addresses: Option<(SocketAddr, SocketAddr)>,
-    /// The first one that counts, which may be shortened.
+    /// The last one that counted, which may be shortened.
     pub close: Option<Said>,
 }
 
@@ -209,7 +209,8 @@ impl<'a> Report<'a> {
             if again.is_none() {
                 half.addresses = Some((half.addresses.map_or(from, |(first, _)| first), from));
             }
-            half.close = half.close.take().or(close.map(Said::shortened));
+            // One in an Initial packet counts no longer once the side goes on.
+            half.close = close.map(Said::shortened).or(half.close.take());
         }
         let types = parts.iter().filter_map(|part| match part {
             Part::Frame { ty, .. } => Some(*ty),

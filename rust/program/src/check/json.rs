@@ -107,7 +107,7 @@ impl<L: Lines> Form for Json<L> {
             object.number("must", whole.broken(Level::Must));
             object.number("should", whole.broken(Level::Should));
             object.number("allowed", whole.allowed());
-            object.number("further", report.further);
+            object.number("further", whole.further());
             object.inner("taken_at", |object| {
                 for vantage in [Vantage::Client, Vantage::Server, Vantage::Path] {
                     object.number(vantage.name(), report.taken.get(&vantage).copied().unwrap_or_default());

@@ -94,8 +94,8 @@ impl Form for Text<'_> {
             let times = count(*number, "time");
             lines.push_str(&format!("{source} {rule} not checked {times}: {}\n", need.reason()));
         }
-        if report.further > 0 {
-            lines.push_str(&format!("{source} {} not kept\n", count(report.further, "further finding")));
+        if whole.further() > 0 {
+            lines.push_str(&format!("{source} {} not kept\n", count(whole.further(), "further finding")));
         }
         let unopened: u64 = counts.unopened.values().sum();
         let broken = match (whole.broken(Level::Must), whole.broken(Level::Should), whole.allowed()) {

@@ -92,7 +92,7 @@ def exports_of(header, functions):
 
 
 def layouts_of(header):
-    """For each struct, as it is without unions, the sizes of its numbers in turn, a letter each: b, h, l and q of 1, 2, 4
+    """For each struct, as it is without unions, the sizes of its numbers in turn, a letter each: b, h, l, q of 1, 2, 4
     and 8 bytes."""
     letters = {"uint8_t": "b", "uint16_t": "h", "uint32_t": "l", "uint64_t": "q", "quic_wire_size": "q", "size_t": "q"}
     header = re.sub(r"/\*.*?\*/|QUIC_WIRE_ALIGNED", "", header, flags=re.S)
@@ -181,10 +181,11 @@ def frame_of(name, body):
 
 
 def depth_of(name, frames, calls, above=()):
-    """The bytes of stack that a function uses with all that it calls."""
-    need(name not in above, f"{name} calls itself")
-    deepest = max((depth_of(it, frames, calls, above + (name,)) for it in calls[name]), default=0)
-    return frames[name] + deepest
+    """The bytes of stack that a function uses with all that it calls. One that calls itself, which here goes as deep as
+    a table has rows, gives each such call a stack of its own."""
+    need(name not in above, f"{name} calls itself by way of another function")
+    others = set(calls[name]) - {name}
+    return frames[name] + max((depth_of(it, frames, calls, above + (name,)) for it in others), default=0)
 
 
 def short_names(order, exports):
@@ -211,7 +212,7 @@ class Translation:
     """The statements of the module's functions as C on the caller's memory."""
 
     def __init__(self, data, names, depths):
-        self.data, self.names, self.depths = data, names, depths
+        self.data, self.names, self.depths, self.name = data, names, depths, None
 
     def address(self, first, second):
         """A line in whose two forms an address of data differs, with the address's offset in the data."""
@@ -236,7 +237,8 @@ class Translation:
 
     def called(self, found):
         """The beginning of a call: with the stack pointer for a function that takes a stack."""
-        return self.names[found[1]] + ("(sp, " if self.depths[found[1]] else "(")
+        stack = "stack" if found[1] == self.name else "sp"
+        return self.names[found[1]] + (f"({stack}, " if self.depths[found[1]] else "(")
 
     def statement(self, first, second):
         line = first if first == second else self.address(first, second)
@@ -251,7 +253,8 @@ class Translation:
         need("instance" not in line and "wasm" not in line, f"not known here: {line}")
         return line
 
-    def body(self, first, second, depth):
+    def body(self, name, first, second):
+        self.name, depth = name, self.depths[name]
         if not depth:
             # A function without a stack has no pointer to it.
             first, second = (re.sub(rf"\n\s*{POINTER} = .*", "", it).replace(POINTER, "0ull") for it in (first, second))
@@ -262,7 +265,8 @@ class Translation:
             is_machine = "wasm_rt_local_memory" in line and MEMORY not in line
             if line.strip() not in ("FUNC_PROLOGUE;", "FUNC_EPILOGUE;") and not is_machine:
                 kept.append(self.statement(line, other))
-        return "\n".join(kept)
+        body = "\n".join(kept)
+        return f"  STACK({depth // 8})\n{body}" if f"{self.names[name]}(stack, " in body else body
 
 
 # ---- Comparisons of arrays, byte by byte, which no C compiler makes wider.
@@ -395,7 +399,7 @@ def file_of(head, first, second, include):
     data = joined_data(data_of(first), data_of(second))
     depths = {name: depth_of(name, frames, calls) for name in order}
     translation = Translation(data, names, depths)
-    bodies = {name: translation.body(functions[name].body, others[name].body, depths[name]) for name in order}
+    bodies = {name: translation.body(name, functions[name].body, others[name].body) for name in order}
     heads = {name: head_of(functions[name], names[name], depths[name]) for name in order}
     bodies = {name: comparison(heads[name], body) or body for name, body in bodies.items()}
     parts = [f"/* SPDX-License-Identifier: MIT OR Apache-2.0 */\n/*\n{head} */\n#define QUIC_WIRE_INLINE\n"

@@ -5,7 +5,9 @@ mod parameter;
 
 use crate::formats;
 use crate::output::{Field, Value};
-pub use frame::{broken_rule, of_empty_payload, of_frame};
+#[cfg(feature = "capture")]
+pub use frame::broken_rule;
+pub use frame::{of_empty_payload, of_frame};
 pub use packet::{FIXED_BIT, of_header};
 pub use parameter::of_parameters;
 use quic_wire::fields::Fields;

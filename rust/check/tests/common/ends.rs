@@ -122,8 +122,8 @@ pub struct Ends {
 
 fn int(value: u64) -> Vec<u8> {
     match value {
-        ..64 => vec![value as u8],
-        ..16_384 => (0x4000 | value as u16).to_be_bytes().to_vec(),
+        0..64 => vec![value as u8],
+        64..16_384 => (0x4000 | value as u16).to_be_bytes().to_vec(),
         _ => (0x8000_0000 | value as u32).to_be_bytes().to_vec(),
     }
 }

@@ -269,6 +269,25 @@ class Translation:
         return f"  STACK({depth // 8})\n{body}" if f"{self.names[name]}(stack, " in body else body
 
 
+# ---- Pointers among the data that are loaded by an address in a variable.
+
+MOVED = "(DATA(0) + i64_load("
+
+
+def holders_of(data, bodies):
+    """The addresses in functions after which pointers are, up to the next address."""
+    addresses = sorted({int(place) for body in bodies.values() for place in re.findall(r"DATA\((\d+)\)", body)})
+    return {max((it for it in addresses if it <= place), default=0) for place in data.pointers}
+
+
+def checked_loads(holders, body):
+    """A function that has such an address, other than to load a pointer at once: whatever it loads may be a pointer."""
+    rest = re.sub(rf"{re.escape(MOVED)}\([^;]*", "", body)
+    if holders.isdisjoint(map(int, re.findall(r"DATA\((\d+)\)", rest))):
+        return body
+    return re.sub(r"(?<!DATA\(0\) \+ )\bi64_load\(", "data_word(", body)
+
+
 # ---- Comparisons of arrays, byte by byte, which no C compiler makes wider.
 
 GUARD = ["i0 = 0u;", "l3 = i0;", "i0 = p0;", "i0 = !(i0);", "if (i0) {goto B0;}"]
@@ -378,11 +397,28 @@ def asserted(exports, layouts):
 # ---- The file.
 
 
-def array_of(content):
-    lines = [" ".join(f"{n}," for n in content[at : at + 24]) for at in range(0, len(content), 24)]
-    body = "".join(f"  {line}\n" for line in lines)
-    return (f"static const union {{ u8 bytes[{len(content)}]; u64 aligned; }} data = {{ {{\n{body}}} }};\n"
-            "#define DATA(n) (AT(data.bytes) + (n))\n")
+# A load of eight bytes that may be a pointer among the data, where it is kept as an offset in them.
+DATA_WORD = """
+static u64 data_word(u64 at) {
+  const u64 place = at - DATA(0), value = i64_load(at);
+  size_t which;
+  if (place < sizeof data.bytes)
+    for (which = 0; which < sizeof pointers / sizeof pointers[0]; which++)
+      if (place == pointers[which])
+        return DATA(0) + value;
+  return value;
+}
+"""
+
+
+def rows_of(numbers, count):
+    return "".join(f"  {' '.join(f'{n},' for n in numbers[at : at + count])}\n" for at in range(0, len(numbers), count))
+
+
+def array_of(data):
+    bytes_of = f"static const union {{ u8 bytes[{len(data.content)}]; u64 aligned; }} data = {{ {{\n"
+    return (f"{bytes_of}{rows_of(data.content, 24)}}} }};\n#define DATA(n) (AT(data.bytes) + (n))\n"
+            f"static const u32 pointers[] = {{\n{rows_of(sorted(data.pointers), 16)}}};\n{DATA_WORD}")
 
 
 def file_of(head, first, second, include):
@@ -400,11 +436,13 @@ def file_of(head, first, second, include):
     depths = {name: depth_of(name, frames, calls) for name in order}
     translation = Translation(data, names, depths)
     bodies = {name: translation.body(name, functions[name].body, others[name].body) for name in order}
+    holders = holders_of(data, bodies)
+    bodies = {name: checked_loads(holders, body) for name, body in bodies.items()}
     heads = {name: head_of(functions[name], names[name], depths[name]) for name in order}
     bodies = {name: comparison(heads[name], body) or body for name, body in bodies.items()}
     parts = [f"/* SPDX-License-Identifier: MIT OR Apache-2.0 */\n/*\n{head} */\n#define QUIC_WIRE_INLINE\n"
              '#include "quic_wire.h"\n#include "quic_wire_portable.h"\n']
-    parts += [*asserted(exports, layouts), "", array_of(data.content)]
+    parts += [*asserted(exports, layouts), "", array_of(data)]
     parts += [heads[name] + ";" for name in order] + [""]
     parts += [f"{heads[name]} {{\n{unused(heads[name], bodies[name])}{bodies[name]}}}\n" for name in order]
     parts += [outside(it, names[it.function], depths[it.function], layouts) for it in exports]

@@ -84,6 +84,35 @@ fn a_retry_that_the_client_did_not_take() {
     talk.send(Client, Initial, &hello).answer().later().finds_nothing();
 }
 
+// Section 17.2.5.2: a client discards a Retry without a token, so an Initial packet without a token that opens with the
+// keys of the id to which it goes is its first one, or breaks that rule. If a client takes such a Retry, and its first
+// packet isn't in the capture, the Retry's id counts as its first one: what is found is of sides that broke a rule.
+#[test]
+fn a_retry_without_a_token() {
+    let found = |is_taken: bool, missing: usize| {
+        let mut talk = Talk::new();
+        let hello = talk.client_hello();
+        talk.send(Client, Initial, &hello);
+        let mut server = talk.made.clone();
+        let retry = server.retry_with(b"retried", b"");
+        talk.all.push(retry);
+        if is_taken {
+            (talk.made.initial_id, talk.made.first_dcid) = (server.initial_id, server.first_dcid);
+            talk.parameters[Server as usize].retry_src_cid = Some(ConnectionId::new(b"retried"));
+        }
+        talk.made.time = server.time;
+        talk.send(Client, Initial, &hello).answer().later();
+        talk.all.drain(..missing);
+        let report = talk.report();
+        report.findings.iter().map(|one| (one.sender, one.rule.name)).collect::<Vec<_>>()
+    };
+    let of_retry = [(Server, "retry-token")];
+    let of_both = [(Client, "first-id"), (Server, "original-destination-id"), (Server, "retry-source-id")];
+    assert_eq!([found(false, 0), found(true, 0)], [of_retry, of_retry]);
+    assert_eq!([found(false, 1), found(false, 2)], [[], []]);
+    assert_eq!([found(true, 1), found(true, 2)], [of_both, of_both]);
+}
+
 // Section 8.1.2: a server without a state answers two Initial packets with a Retry each, of one id and two tokens. The
 // network may reorder them.
 #[test]

@@ -153,7 +153,8 @@ fn server_token(about: &About<'_>, opened: &Opened<'_>) -> Checked {
 fn first_id(about: &About<'_>, opened: &Opened<'_>) -> Checked {
     let packet = opened.packet();
     let is_first = about.sender == Side::Client && about.end().first_scid().is_none();
-    // With a token it may come after a Retry, whose id the server chose.
+    // With a token it may come after a Retry, whose id the server chose. A Retry without one is discarded (section
+    // 17.2.5.2).
     let is_bound = is_first && opened.kind() == HeaderKind::Initial && packet.token().is_empty();
     let len = packet.dst_cid().len();
     if !is_bound || len >= LEAST_FIRST_ID {

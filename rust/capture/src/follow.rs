@@ -469,18 +469,21 @@ fn packet_at<'a>(datagram: &Datagram<'a>, offset: usize, id_len: usize) -> Optio
         .find(|packet| packet.place().range().start == offset)
 }
 
-// Whether a network card may cut a datagram into several: it is longer than usual, or has its short header's id again.
+// Whether a network card may cut a datagram into several: it is longer than usual, has its short header's id again, or
+// begins with a long header, as few do.
 fn may_be_several(datagram: &Datagram<'_>, id_len: usize) -> bool {
-    datagram.missing == 0 && (datagram.bytes.len() > MOST_USUAL || has_id_again(datagram.bytes, id_len))
+    let bytes = datagram.bytes;
+    let is_long = bytes.first().is_some_and(|first| first & LONG_HEADER_FORM != 0);
+    datagram.missing == 0 && (is_long || bytes.len() > MOST_USUAL || has_id_again(bytes, id_len))
 }
 
 // By the first bytes of an id, and without a branch for each byte: most datagrams have one packet.
 fn has_id_again(datagram: &[u8], id_len: usize) -> bool {
-    let [first, a, b, c, d, rest @ ..] = datagram else { return false };
+    let [_, a, b, c, d, rest @ ..] = datagram else { return false };
     let [second, third, fourth] = [1, 2, 3].map(|from| rest.get(from..).unwrap_or_default());
     let fours = rest.iter().zip(second).zip(third).zip(fourth);
     let is_there = |(((one, two), three), four)| (one == a) & (two == b) & (three == c) & (four == d);
-    first & LONG_HEADER_FORM == 0 && id_len >= 4 && fours.fold(false, |found, bytes| found | is_there(bytes))
+    id_len >= 4 && fours.fold(false, |found, bytes| found | is_there(bytes))
 }
 
 fn packets_are_over(rest: &[u8]) -> bool {

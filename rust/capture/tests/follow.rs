@@ -325,58 +325,6 @@ fn what_follows_packets() {
     assert_eq!(rows.unopened, []);
 }
 
-// Datagrams that a network card cuts.
-#[test]
-fn segmentation_offload() {
-    for ids in [[b"client".to_vec(), b"server".to_vec()], [vec![], vec![]]] {
-        for size in [700, 1200, 1452] {
-            let mut made = Made { ids: ids.clone(), ..Made::new(1) };
-            let mut all = made.handshake();
-            let overhead = made.clone().packet(Server, Short, &[0; 100]).len() - 100;
-            let mut packets: Vec<_> =
-                (0..9).flat_map(|_| made.packet(Server, Short, &vec![0; size - overhead])).collect();
-            packets.extend(made.packet(Server, Short, &[0; 50]));
-            all.push(made.datagram(Server, packets));
-            let (follower, rows) = rows_of(&[&made], &all);
-            assert_eq!((rows.opened(0), rows.unopened.len(), rows.rests.len()), (14, 0, 0), "{size}");
-            assert_eq!((follower.counts().offloaded, follower.counts().segments), (1, 10));
-        }
-    }
-    // The first segment has a Handshake packet before the short one.
-    let mut made = Made::new(1);
-    let mut all = made.handshake();
-    let mut packets = made.packet(Server, Handshake, &[0; 300]);
-    let overhead = made.clone().packet(Server, Short, &[0; 100]).len() - 100;
-    let left = 1200 - packets.len() - overhead;
-    packets.extend(made.packet(Server, Short, &vec![0; left]));
-    packets.extend(made.packet(Server, Short, &vec![0; 1200 - overhead]));
-    packets.extend(made.packet(Server, Short, PING));
-    all.push(made.datagram(Server, packets));
-    all_opened(&made, &all, 8);
-    // The first segments have only a Handshake packet each.
-    for ids in [[b"client".to_vec(), b"server".to_vec()], [vec![], vec![]]] {
-        for front in [1, 2] {
-            let mut made = Made { ids: ids.clone(), ..Made::new(1) };
-            let mut all = made.handshake();
-            let [long, short] = [Handshake, Short].map(|kind| made.clone().packet(Server, kind, &[0; 100]).len() - 100);
-            let mut packets = Vec::new();
-            (0..front).for_each(|_| packets.extend(made.packet(Server, Handshake, &vec![0; 1200 - long])));
-            (0..3).for_each(|_| packets.extend(made.packet(Server, Short, &vec![0; 1200 - short])));
-            packets.extend(made.packet(Server, Short, &[0; 50]));
-            all.push(made.datagram(Server, packets));
-            let (follower, rows) = rows_of(&[&made], &all);
-            assert_eq!((rows.opened(0), rows.unopened.len(), rows.rests.len()), (8 + front, 0, 0), "{front}");
-            assert_eq!((follower.counts().offloaded, follower.counts().segments), (1, 4 + front as u64), "{front}");
-        }
-    }
-    // All of them are shorter than a datagram usually is.
-    let mut made = Made::new(1);
-    let mut all = made.handshake();
-    let packets = (0..3).flat_map(|_| made.packet(Server, Short, &[0; 30])).collect();
-    all.push(made.datagram(Server, packets));
-    all_opened(&made, &all, 7);
-}
-
 #[test]
 fn stateless_resets() {
     let mut made = Made::new(1);

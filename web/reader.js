@@ -20,8 +20,6 @@ const FULL = "what comes after that needs more memory than the page has";
 // How many bytes are made for a file at most: they are in memory until it is saved.
 const MOST_SAVED = 1 << 30;
 const DAMAGED = "the rest of the file, which gzip compressed, can’t be read";
-// The names of errors of a file itself.
-const FILE_ERRORS = ["NotFoundError", "NotReadableError", "SecurityError"];
 // What a capture is read for: its table, the packets of one record, the objects that quic-wire prints, the traces that
 // it writes of all connections, and that of one.
 const [TABLE, RECORD, OBJECTS, TRACES, TRACE] = [0, 1, 2, 3, 4];
@@ -31,9 +29,6 @@ const MOST_FINDINGS = 500;
 
 // Why reading has ended without a fault: something else is read now.
 export class Cancelled extends Error {}
-
-// Why a file can be read only up to here.
-class Damaged extends Error {}
 
 // When messages have their turn.
 class Turns {
@@ -69,45 +64,13 @@ async function* filePieces(file) {
   }
 }
 
-// A stream of the bytes of a file, few at a time. |count| is called with how many.
-function streamOf(file, count) {
-  const pieces = filePieces(file);
-  let rest = new Uint8Array();
-  return new ReadableStream({
-    async pull(to) {
-      if (rest.length === 0) {
-        const { done, value } = await pieces.next();
-        if (done) {
-          to.close();
-          return;
-        }
-        [rest] = value;
-      }
-      const bytes = rest.slice(0, PACKED);
-      rest = rest.subarray(PACKED);
-      count(bytes.length);
-      to.enqueue(bytes);
-    },
-  });
-}
-
-// The pieces of a file that gzip compressed.
-async function* inflatedPieces(file) {
-  if (typeof DecompressionStream === "undefined") {
-    throw new Error("the file is compressed by gzip, which this browser can’t read");
-  }
-  let read = 0;
-  const packed = streamOf(file, (length) => { read += length; });
-  const reader = packed.pipeThrough(new DecompressionStream("gzip")).getReader();
-  const next = () => reader.read().catch((error) => {
-    throw error instanceof Cancelled || FILE_ERRORS.includes(error.name) ? error : new Damaged(DAMAGED);
-  });
-  try {
-    for (let part = await next(); !part.done; part = await next()) {
-      yield [part.value, read];
+// The same, few bytes at a time.
+async function* smallPieces(file) {
+  for await (const [bytes, read] of filePieces(file)) {
+    for (let at = 0; at < bytes.length; at += PACKED) {
+      const part = bytes.subarray(at, at + PACKED);
+      yield [part, read - bytes.length + at + part.length];
     }
-  } finally {
-    reader.cancel().catch(() => {});
   }
 }
 
@@ -165,10 +128,9 @@ function addPieces(traces, buffer) {
   }
 }
 
-async function piecesOf(file) {
+async function isCompressed(file) {
   const front = new Uint8Array(await file.slice(0, GZIP.length).arrayBuffer());
-  const isCompressed = GZIP.every((byte, at) => front[at] === byte);
-  return isCompressed ? inflatedPieces(file) : filePieces(file);
+  return GZIP.every((byte, at) => front[at] === byte);
 }
 
 export class Reader {
@@ -208,31 +170,30 @@ export class Reader {
   // and after each piece, with how many bytes of the file were read; reading ends if it returns true. Returns why the
   // file can't be read on.
   async feed(module, after) {
+    const { calls } = module;
+    const isPacked = await isCompressed(this.file);
+    const put = isPacked ? calls.capture_put_packed : calls.capture_put;
     const turns = new Turns();
     let before = 0;
-    try {
-      for await (const [bytes, read] of await piecesOf(this.file)) {
-        module.put(bytes);
-        module.calls.capture_put();
-        let left = MORE;
-        while (left === MORE) {
-          left = module.calls.capture_step(DATAGRAMS);
-          const fault = left === FAILED ? module.words : module.size > MOST_MEMORY ? FULL : "";
-          const isTold = left !== MORE || turns.isOver;
-          if (fault || (isTold && after(left === MORE ? before : read))) {
-            return fault;
-          }
-          await turns.next();
+    for await (const [bytes, read] of isPacked ? smallPieces(this.file) : filePieces(this.file)) {
+      module.put(bytes);
+      const isDamaged = put() === 0;
+      let left = MORE;
+      while (left === MORE) {
+        left = calls.capture_step(DATAGRAMS);
+        const fault = left === FAILED ? module.words : module.size > MOST_MEMORY ? FULL : "";
+        const isTold = left !== MORE || turns.isOver;
+        if (fault || (isTold && after(left === MORE ? before : read))) {
+          return fault;
         }
-        before = read;
+        await turns.next();
       }
-    } catch (error) {
-      if (!(error instanceof Damaged)) {
-        throw error;
+      if (isDamaged) {
+        return DAMAGED;
       }
-      return error.message;
+      before = read;
     }
-    return "";
+    return isPacked && calls.capture_end_packed() === 0 ? DAMAGED : "";
   }
 
   // Ends a capture. |after| is called every few milliseconds, with the size of the file.

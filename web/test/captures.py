@@ -1,6 +1,7 @@
 """Captures in the page: what it shows and saves of them is what the program quic-wire prints."""
 import base64
 import glob
+import gzip
 import json
 import os
 import subprocess
@@ -94,14 +95,20 @@ def all_agree(browser, address, top, program):
         browser.send("navigate", {"url": "about:blank"})
         browser.go(f"{address}#captures")
         choose(browser, [capture, *([keys] if keys else [])])
-        browser.run("document.getElementById('save-objects').click()")
-        saved = browser.saved(f"{os.path.basename(capture)}.jsonl")
-        wanted = printed(program, "capture", capture, keys)
-        for number, (one, other) in enumerate(zip(saved.splitlines(), wanted.splitlines())):
-            same(one, other, f"line {number} of {capture}")
-        same(len(saved), len(wanted), f"the length of what is saved of {capture}")
+        saved_agrees(browser, program, capture, keys)
         findings_agree(browser, program, capture, keys)
     return len(captures(top))
+
+
+def saved_agrees(browser, program, capture, keys):
+    """What is saved of a capture is what `capture --json` prints, which is returned."""
+    browser.run("document.getElementById('save-objects').click()")
+    saved = browser.saved(f"{os.path.basename(capture)}.jsonl")
+    wanted = printed(program, "capture", capture, keys)
+    for number, (one, other) in enumerate(zip(saved.splitlines(), wanted.splitlines())):
+        same(one, other, f"line {number} of {capture}")
+    same(len(saved), len(wanted), f"the length of what is saved of {capture}")
+    return wanted
 
 
 def broken_agree(browser, address, top, program):
@@ -199,7 +206,11 @@ def saved_otherwise(browser, address, top, program):
 
 
 def read(path):
-    with open(path, encoding="utf-8") as file:
+    return read_bytes(path).decode()
+
+
+def read_bytes(path):
+    with open(path, "rb") as file:
         return file.read()
 
 
@@ -268,6 +279,22 @@ def paged(browser, address, top):
     browser.until("return document.getElementById('packet-title').textContent.startsWith(arguments[0])",
                   f"the packet of record {chosen}", f"Record {chosen}: ")
     return count
+
+
+def compressed(browser, address, top, program):
+    """A capture that gzip compressed in several parts is read whole, as the program does. Returns how many packets it
+    has."""
+    keys = f"{top}/vectors/captures/ngtcp2-loss.keys"
+    whole = read_bytes(f"{top}/vectors/captures/ngtcp2-loss.pcap")
+    with tempfile.TemporaryDirectory() as folder:
+        path = f"{folder}/parts.pcap.gz"
+        with open(path, "wb") as file:
+            for begin in range(0, len(whole), 10000):
+                file.write(gzip.compress(whole[begin:begin + 10000]))
+        browser.send("navigate", {"url": "about:blank"})
+        browser.go(f"{address}#captures")
+        choose(browser, [path, keys], is_dropped=True)
+        return saved_agrees(browser, program, path, keys).count('"kind":"packet"')
 
 
 def rejected(browser, address, top):

@@ -127,6 +127,7 @@ def all_captures(browser, host, words):
     print(f"  {captures.broken_agree(browser, address, top, program)} captures with its findings", flush=True)
     print(f"  {captures.saved_otherwise(browser, address, top, program)} traces and a picture are saved", flush=True)
     print(f"  the last of {captures.paged(browser, address, top)} rows, by a key")
+    print(f"  {captures.compressed(browser, address, top, program)} packets of a capture in compressed parts")
     captures.rejected(browser, address, top)
     print(f"  captures at {captures.widths(browser, address, top)} widths")
     captures.forced_colors(browser, address, top)

@@ -154,11 +154,16 @@ async function inPieces() {
   same(again.summary, wanted, "files that the page reads");
 }
 
-// A part of a compressed file is shown, with words.
-async function damaged() {
-  const packed = zlib.gzipSync(Buffer.concat(repeated(20)));
+// Of a compressed file all parts are read. A part of one that is cut off is shown, with words.
+async function compressed() {
+  const capture = Buffer.concat(repeated(20));
+  const plain = await opened(blobs(capture, KEYS));
+  const packed = zlib.gzipSync(capture);
   const whole = await opened(blobs(packed, KEYS));
-  same(whole.fault, "", "a compressed capture");
+  same([whole.fault, whole.summary], ["", plain.summary], "a compressed capture");
+  const parts = [capture.subarray(0, 1000), capture.subarray(1000)].map((part) => zlib.gzipSync(part));
+  const joined = await opened(blobs(Buffer.concat(parts), KEYS));
+  same([joined.fault, joined.summary], ["", plain.summary], "one of two compressed parts");
   const cut = await opened(blobs(packed.subarray(0, packed.length >> 1), KEYS));
   same(cut.fault, "the rest of the file, which gzip compressed, can’t be read", "one that is cut off");
   const { packets } = cut.summary;
@@ -222,7 +227,7 @@ send("start", { module: fs.readFileSync(module) });
 await endsEarly();
 await answersSoon();
 await inPieces();
-await damaged();
+await compressed();
 await readAgain();
 await readPayloadAgain();
 if (failed > 0) {

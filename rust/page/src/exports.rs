@@ -6,6 +6,7 @@
 
 use crate::bytes::{self, Choices, Ending, Of};
 use crate::engine::{Engine, Purpose};
+use crate::packed::Inflater;
 use quic_wire::Side;
 use quic_wire_capture::tls::Hello;
 use std::cell::RefCell;
@@ -19,6 +20,7 @@ struct State {
     output: Vec<u8>,
     words: String,
     engine: Option<Engine>,
+    inflater: Inflater,
     held: Vec<u8>,
     versions: Vec<u32>,
 }
@@ -98,6 +100,7 @@ pub extern "C" fn capture_begin(purpose: u32, number: u32) {
         // What the last one had is freed before.
         state.engine = None;
         state.engine = Some(Engine::new(purpose));
+        state.inflater = Inflater::default();
     });
 }
 
@@ -123,6 +126,25 @@ pub extern "C" fn capture_feed() -> u32 {
 #[unsafe(no_mangle)]
 pub extern "C" fn capture_put() {
     with_engine(|engine, input, _, _| engine.put(input));
+}
+
+/// Takes the input as the next bytes of a file that gzip compressed, as [`capture_put`] does. Returns 1, or 0 if not all
+/// of them can be read: then the capture ends with those before.
+#[unsafe(no_mangle)]
+pub extern "C" fn capture_put_packed() -> u32 {
+    with(|State { input, inflater, engine, .. }| {
+        let (bytes, is_read) = inflater.take(input);
+        if let Some(engine) = engine {
+            engine.put(&bytes);
+        }
+        is_read.into()
+    })
+}
+
+/// Ends a file that gzip compressed. Returns 1, or 0 if it is cut off.
+#[unsafe(no_mangle)]
+pub extern "C" fn capture_end_packed() -> u32 {
+    with(|State { inflater, .. }| inflater.finish().into())
 }
 
 /// Takes so many of the datagrams that are whole, or all if there are fewer. Returns 2 if there may be more, 1 if there

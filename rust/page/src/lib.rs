@@ -17,6 +17,7 @@ pub mod bytes;
 pub mod engine;
 pub mod exports;
 mod filter;
+pub mod packed;
 mod store;
 mod streams;
 mod summary;

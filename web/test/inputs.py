@@ -296,14 +296,21 @@ def further_links(browser, address):
     browser.until("return location.hash === '#read=frames&hex=01.4001.1e0101&at=1&with=1e01'", "the link of a list")
 
 
+# Clicks the button, and keeps what it says afterwards, which it does only for a while.
+CLICK_LINK = """const link = document.getElementById("link"); window.said = null;
+    new MutationObserver(() => {
+      if (link.textContent !== "Copy link") { window.said = link.textContent; }
+    }).observe(link, { childList: true });
+    link.click();"""
+
+
 def copied_link(browser, address):
     """The button writes the link at once, and says if there are too many bytes for it."""
     for size, want in ((65536, "Copied"), (65537, "Copied, without the bytes: they are too many")):
         browser.go(f"{address}#read=frames&hex=01")
         browser.run(SET_INPUT, "01" * size)
-        browser.run("document.getElementById('link').click()")
+        browser.run(CLICK_LINK)
         same(len(browser.run("return location.hash")) > 2 * 65536, size == 65536, f"a link of {size} bytes")
-        text = browser.until("const { textContent } = document.getElementById('link');"
-                             "return textContent !== 'Copy link' && textContent", "what the button says")
+        text = browser.until("return window.said", "what the button says")
         if text not in (want, "Not copied; it is in the address bar"):
             raise Failed(f"the button says {text!r}")

@@ -68,6 +68,10 @@ class Browser:
             time.sleep(0.05)
         raise Failed(f"not saved: {name}")
 
+    def printed(self):
+        """The page as a PDF, without its backgrounds."""
+        return base64.b64decode(self.send("print", {"background": False}))
+
     def point(self, x, y, click=False):
         """Moves the pointer to a point of the window."""
         actions = [{"type": "pointerMove", "duration": 0, "x": int(x), "y": int(y), "origin": "viewport"}]
@@ -149,6 +153,10 @@ class Chromium(Driven):
 
     def devtools(self, command, **params):
         return self.http("POST", f"{self.session}/goog/cdp/execute", {"cmd": command, "params": params})
+
+    def printed(self):
+        """Its driver would wait only 10 seconds."""
+        return base64.b64decode(self.devtools("Page.printToPDF", printBackground=False)["data"])
 
     def errors(self):
         """The messages in the console since the last call."""

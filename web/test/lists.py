@@ -49,7 +49,10 @@ def worked(top):
     """The commands in README whose input is a line, and their lines."""
     with open(f"{top}/README.md", encoding="utf-8") as file:
         text = file.read()
-    found = re.findall(r"^    echo '?([0-9a-f][0-9a-f ]*)'? \|(?: tr -d ' :' \|)? \./quic-show (.+)$", text, re.M)
+    program = r"(?:\./quic-show|dist/quic-show-x86_64-linux)"
+    found = re.findall(rf"^    echo '?([0-9a-f][0-9a-f ]*)'? \|(?: tr -d ' :' \|)? {program} (.+)$", text, re.M)
+    if not found:
+        raise ValueError("README has no command whose input is a line")
     lists = {}
     for digits, command in found:
         lists.setdefault(command, []).append(digits.replace(" ", ""))

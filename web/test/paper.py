@@ -1,5 +1,4 @@
 """The page on paper, and at the widths of windows."""
-import base64
 import re
 import zlib
 
@@ -115,7 +114,7 @@ def on_paper(browser, address):
     set_form(browser, {"mode": "frames", "quinn": True}, "0a0004616263644001" * 56)
     wanted = [tuple(map(int, color.split())) for color in browser.run(PRINTED)]
     browser.media(**{"prefers-color-scheme": "dark"})
-    document = base64.b64decode(browser.send("print", {"background": False}))
+    document = browser.printed()
     # 504 bytes in rows of 16; and 56 times a STREAM with four fields and a PING with one.
     same(browser.run("return window.printed"), {"grid": 32, "outline": 56 * 7}, "the rows on paper")
     printed = colors_of(document)

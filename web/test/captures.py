@@ -36,6 +36,9 @@ WIDE = """const boxes = [document.documentElement, ...document.querySelectorAll(
         && !["hidden", "visible", "clip"].includes(getComputedStyle(one).overflowX))
       .concat(document.documentElement.scrollWidth > window.innerWidth ? [document.body] : [])
       .map((one) => `${one.id} ${one.className}`);"""
+# What the columns of the list of packets are called, where there is no room for it.
+CUT = """return [...document.querySelectorAll("#packets-head > span")]
+    .filter((one) => one.scrollWidth > one.clientWidth && one.clientWidth > 0).map((one) => one.textContent);"""
 WIDTHS = (400, 800, 1280, 1920)
 # Captures of two connections and of one.
 TRACED = ("vectors/captures/ngtcp2-0-rtt.pcap", "rust/capture/tests/data/small.pcap")
@@ -307,7 +310,7 @@ def rejected(browser, address, top):
 
 
 def widths(browser, address, top):
-    """With a capture nothing is wider than the window, at any width."""
+    """With a capture nothing is wider than the window, at any width, and the heads of columns aren't cut."""
     for width in WIDTHS:
         browser.send("navigate", {"url": "about:blank"})
         browser.go(f"{address}#captures")
@@ -318,6 +321,7 @@ def widths(browser, address, top):
         browser.until("return !document.getElementById('payload').hidden", "a payload")
         browser.run("document.querySelector('#connections details').open = true")
         same(browser.run(WIDE), [], f"what is too wide in {width} pixels")
+        same(browser.run(CUT), [], f"what the head of the table doesn't show whole in {width} pixels")
     browser.unshape()
     return len(WIDTHS)
 

@@ -5,6 +5,7 @@ import json
 import os
 import re
 import shutil
+import signal
 import socket
 import subprocess
 import tempfile
@@ -208,7 +209,8 @@ class WebKit(Driven):
             port = free.getsockname()[1]
         quiet = {"stdout": subprocess.DEVNULL, "stderr": subprocess.DEVNULL}
         self.driver = subprocess.Popen(
-            ["xvfb-run", "-a", "WebKitWebDriver", f"--port={port}"], env={**os.environ, "HOME": self.profile}, **quiet)
+            ["xvfb-run", "-a", "WebKitWebDriver", f"--port={port}"], env={**os.environ, "HOME": self.profile},
+            start_new_session=True, **quiet)
         self.base = f"http://127.0.0.1:{port}"
         self.session = None
         try:
@@ -231,6 +233,12 @@ class WebKit(Driven):
     def errors(self):
         """The driver doesn't pass on the console."""
         return []
+
+    def close(self):
+        """Ends the driver too, which xvfb-run leaves behind."""
+        super().close()
+        with contextlib.suppress(ProcessLookupError):
+            os.killpg(self.driver.pid, signal.SIGTERM)
 
 
 # The types of what the page saves.

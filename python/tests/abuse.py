@@ -26,6 +26,10 @@ try:
     import ctypes
 except ImportError:  # in some interpreters below another
     ctypes = None
+try:
+    import resource
+except ImportError:  # on Windows
+    resource = None
 
 # What may be raised for wrong arguments; MemoryError for a PADDING of 2^62 bytes, or so many versions.
 EXPECTED = (ValueError, TypeError, BufferError, MemoryError)
@@ -34,6 +38,7 @@ SHOWN = 200  # characters of a fault
 # A length for which CPython makes a tuple first. Without its lock 3.13 has no MemoryError for one that takes all memory
 # of the machine, and doesn't give all of a long one back: `tuple` of such an object grows too.
 LIE = 1 << 40 if getattr(sys, "_is_gil_enabled", lambda: True)() else 40
+MEMORY = 3 << 30  # bytes for all calls, so that a PADDING of 2^32 bytes is a MemoryError and the machine keeps its own
 TIMES = 16  # that calls are done again
 SLACK = 60  # blocks, references or pages that may be left each time, as those of what is printed
 faults = []
@@ -419,12 +424,20 @@ def try_leaks(chance, count):
     return TIMES * (60 * rounds + hostile + buffered)
 
 
+def limit_memory():
+    """No call takes more than MEMORY, if the system can see to that and doesn't set a lower limit already."""
+    if resource is not None:
+        with contextlib.suppress(ValueError, OSError):
+            resource.setrlimit(resource.RLIMIT_AS, (MEMORY, resource.getrlimit(resource.RLIMIT_AS)[1]))
+
+
 def main():
     words = sys.argv[1:]
     if len(words) > 2 or not all(word.isdigit() for word in words):
         print("usage: python -m tests.abuse [SEED [CALLS]]", file=sys.stderr)
         return 2
     seed, count = [int(word) for word in words] + [1, 1_000_000][len(words) :]
+    limit_memory()
     parts = {try_arguments: count, try_buffers: count // 20, try_threads: count // 200, try_interpreters: count // 50}
     for part, share in (*parts.items(), (try_leaks, count)):
         made = part(random.Random(seed), max(share, 50))

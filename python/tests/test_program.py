@@ -57,7 +57,7 @@ class Program(unittest.TestCase):
     def test_folders_are_those_of_pip(self):
         first, *_, last = program.folders()
         if sys.prefix != sys.base_prefix:
-            self.assertEqual(pathlib.Path(first), pathlib.Path(sys.executable).parent, "of a virtual environment")
+            self.assertTrue(os.path.samefile(first, pathlib.Path(sys.executable).parent), "of a virtual environment")
         beside = pathlib.Path(program.__file__).resolve().parents[1]
         self.assertEqual(pathlib.Path(last), beside / "bin", "of pip install --target")
 

@@ -126,7 +126,7 @@ void gaps_written(const uint8_t *payload, size_t len,
   size_t n = 0, room = sizeof out, k;
   int answer;
   memset(out, 0xa5, sizeof out);
-  below.first_range = (size_t)frame->ack.largest + 1;
+  below.first_range = (quic_wire_size)frame->ack.largest + 1;
   WANT(quic_wire_ack_gaps_write(&below, gaps, frame->ngaps, out, room, &n) ==
        INVALID);
   answer = quic_wire_ack_gaps_write(frame, gaps, frame->ngaps, out, room, &n);

@@ -19,6 +19,7 @@ DATA_AT = 65536  # where the data of the first module begin
 STEP = 65536  # how much further those of the second do
 MEMORY = "wasm_rt_local_memory_base, wasm_rt_local_memory_size, &instance->w2c_memory, "
 PREFIX = "w2c_quicwire_"
+ALONE = {"quic_wire_header_fields"}  # structs of which there is one, though a length of something else follows
 
 Function = collections.namedtuple("Function", "returns arguments body")
 Export = collections.namedtuple("Export", "returns name arguments function")
@@ -363,7 +364,7 @@ def argument(index, kinds, layouts):
     if plain == "uint8_t":
         return "", f"AT(a{index})", ""
     need(plain in layouts, f"an argument {kind}")
-    is_many = index + 1 < len(kinds) and kinds[index + 1] == "size_t"
+    is_many = plain not in ALONE and index + 1 < len(kinds) and kinds[index + 1] == "size_t"
     count, layout = f"a{index + 1}" if is_many else "1", layouts[plain]
     if not kind.startswith("const"):
         turn = f'TURN({index}, {count}, {plain}, "{layout}")'

@@ -1,5 +1,5 @@
 # make            builds the program quic-wire by cargo and, with the Rattle kit, quic-show and the library for C in out/lib
-# make check      checks all that needs no kit, on what is installed, and says what is missing: some ten minutes
+# make check      checks all that needs no kit, on what is installed, and says what is missing: two to ten minutes
 # make ci         the gate: proves everything, and checks the rest: an hour on four cores; needs the kit
 # make proofs     only the proofs, mutants and proved tests of the gate
 # make install    installs what make left below PREFIX, the libraries in PREFIX/LIBDIR, all below DESTDIR if it is set

@@ -57,9 +57,9 @@ def faults_of_counts(counts):
     text = (TOP / "README.md").read_text(encoding="utf-8")
     told = {name: int(count) for name, count in re.findall(r"^\| `(\w+)\.json` \| (\d+) \|", text, re.M)}
     if told != counts:
-        yield f"README.md beside json: {dict(told.items() - counts.items())}, not {dict(counts.items() - told.items())}"
+        yield f"vectors/README.md: {dict(told.items() - counts.items())}, not {dict(counts.items() - told.items())}"
     if f"\n{sum(counts.values())} tests " not in text:
-        yield f"README.md beside json doesn't begin with {sum(counts.values())} tests"
+        yield f"vectors/README.md doesn't begin with {sum(counts.values())} tests"
 
 
 def faults_of_captures():
@@ -68,7 +68,7 @@ def faults_of_captures():
     captures = json.loads((TOP / "captures" / "broken.json").read_text(encoding="utf-8"))["captures"]
     lawful = sum(one["lawful"] for one in captures)
     told = f"has {len(captures)} captures", f"In {len(captures) - lawful} of them", f"in {lawful} it nearly does"
-    yield from (f"README.md beside json doesn't say, of captures/broken: {one}" for one in told if one not in text)
+    yield from (f"vectors/README.md doesn't say, of captures/broken: {one}" for one in told if one not in text)
 
 
 def main():

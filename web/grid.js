@@ -64,7 +64,15 @@ export class Grid {
     if (index >= 0) {
       this.paint(cell, place, reading.item(index));
     }
+    if (this.spot?.isActive && this.spot.place === place) {
+      this.name(cell, this.spot);
+    }
     return cell;
+  }
+
+  // Gives the active cell its name, which it also has when it is drawn again.
+  name(cell, { place, label }) {
+    cell.ariaLabel = `byte ${place}, ${cell.textContent}, ${label}${this.isOther(place) ? ", differs" : ""}`;
   }
 
   isOther(place) {
@@ -120,8 +128,7 @@ export class Grid {
       this.box.removeAttribute("aria-activedescendant");
       return;
     }
-    const other = this.isOther(spot.place) ? ", differs" : "";
-    cell.ariaLabel = `byte ${spot.place}, ${cell.textContent}, ${spot.label}${other}`;
+    this.name(cell, spot);
     this.box.setAttribute("aria-activedescendant", cell.id);
   }
 

@@ -58,18 +58,25 @@ export class Words {
 }
 
 export class Library {
-  // This many libraries from one module, whose bytes are |module|, each with its own memory.
+  // This many libraries, each with its own bytes, in one module, whose bytes are |module|. WebKit has memories that
+  // grow without a copy for eight modules, and the worker needs one.
   static async load(module, count) {
-    const compiled = await WebAssembly.compile(module);
-    const started = Array.from({ length: count }, () => Module.start(compiled));
-    return (await Promise.all(started)).map((one) => new Library(one));
+    const started = await Module.start(await WebAssembly.compile(module));
+    return Array.from({ length: count }, (_, number) => new Library(started, number));
   }
 
-  constructor(module) {
-    this.module = module;
-    this.calls = module.calls;
-    this.length = 0;
-    this.spoken = null;
+  constructor(module, number) {
+    Object.assign(this, { module, number, length: 0 });
+  }
+
+  // The module's functions, which read the bytes of this library.
+  get calls() {
+    const { module, number } = this;
+    if (module.chosen !== number) {
+      module.calls.bytes_choose(number);
+      module.chosen = number;
+    }
+    return module.calls;
   }
 
   // Puts bytes where the calls below read them.
@@ -188,10 +195,11 @@ export class Library {
 
   // Sets the versions whose long headers are read.
   speak(versions) {
-    if (this.spoken !== versions) {
-      this.module.put(new Uint8Array(Uint32Array.from(versions).buffer));
-      this.calls.bytes_versions();
-      this.spoken = versions;
+    const { module } = this;
+    if (module.spoken !== versions) {
+      module.put(new Uint8Array(Uint32Array.from(versions).buffer));
+      module.calls.bytes_versions();
+      module.spoken = versions;
     }
   }
 

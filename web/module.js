@@ -11,8 +11,9 @@ export class Module {
     return new Module((await WebAssembly.instantiate(compiled, {})).exports);
   }
 
+  // |chosen| is the number of the bytes that calls on bytes read, |spoken| the versions that they know.
   constructor(calls) {
-    this.calls = calls;
+    Object.assign(this, { calls, chosen: 0, spoken: null });
   }
 
   // Puts bytes where the next call takes them.

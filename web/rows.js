@@ -153,10 +153,10 @@ export class Rows {
       const below = this.box.scrollTop * this.density + this.box.clientHeight / this.height;
       return Math.min(this.count, Math.floor(below));
     }
-    const { children } = this.layer;
-    const view = this.box.scrollTop + this.box.clientHeight;
+    // By fractions of a pixel, which offsets leave out.
+    const { bottom } = this.box.getBoundingClientRect();
     let seen = this.drawn[1];
-    while (seen > 0 && children[seen - 1].offsetTop + children[seen - 1].offsetHeight > view + 1) {
+    while (seen > 0 && this.layer.children[seen - 1].getBoundingClientRect().bottom > bottom + 1) {
       seen -= 1;
     }
     return seen;

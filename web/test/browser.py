@@ -1,4 +1,5 @@
-"""Drives a headless browser by WebDriver: Chromium through chromedriver, Firefox through its own port."""
+"""Drives a browser that nobody sees by WebDriver: Chromium and WebKitGTK through their drivers, Firefox through its own
+port."""
 import base64
 import contextlib
 import json
@@ -29,7 +30,10 @@ class Failed(Exception):
 
 
 class Browser:
-    """What both browsers have in common. Subclasses send the commands."""
+    """What the browsers have in common. Subclasses send the commands."""
+
+    # Whether tests can change what the system prefers, zoom, print, and give this machine another name.
+    CAN_PRETEND = True
 
     def go(self, url):
         self.send("navigate", {"url": url})
@@ -177,6 +181,7 @@ class Chromium(Driven):
 
     def width(self, width):
         self.devtools("Emulation.setDeviceMetricsOverride", width=width, height=900, mobile=False, deviceScaleFactor=1)
+        return width
 
     def media(self, **features):
         """Sets what the system prefers: prefers-color-scheme, forced-colors, prefers-reduced-motion."""
@@ -198,9 +203,21 @@ class Chromium(Driven):
 
 
 class WebKit(Driven):
-    """WebKitGTK, through its own driver, in a screen that nobody sees."""
+    """WebKitGTK, through its own driver, in a screen that nobody sees. The driver neither passes on the console nor
+    what is saved, prints nothing, and changes nothing that the system prefers."""
 
     name = "WebKitGTK"
+    CAN_PRETEND = False
+    # Keeps the texts of files when the page has them saved.
+    KEEP = """window.kept = {};
+        let last = null;
+        const make = URL.createObjectURL;
+        URL.createObjectURL = (blob) => { last = blob; return make.call(URL, blob); };
+        const click = HTMLElement.prototype.click;
+        HTMLAnchorElement.prototype.click = function () {
+          const { download } = this;
+          if (download) { last.text().then((text) => { window.kept[download] = text; }); } else { click.call(this); }
+        };"""
 
     def __init__(self):
         self.profile = tempfile.mkdtemp()
@@ -229,10 +246,30 @@ class WebKit(Driven):
         session = self.http("POST", "/session", {"capabilities": {"alwaysMatch": {"timeouts": {"script": 600000}}}})
         self.session = f"/session/{session['sessionId']}"
         self.version = session["capabilities"]["browserVersion"]
+        self.unshape()
+
+    def go(self, url):
+        super().go(url)
+        self.run(self.KEEP)
+
+    def saved(self, name):
+        """The text that the page had saved as a file with this name."""
+        script = "const text = window.kept[arguments[0]] ?? null; delete window.kept[arguments[0]]; return text;"
+        return self.until(script, f"{name} is saved", name)
 
     def errors(self):
-        """The driver doesn't pass on the console."""
         return []
+
+    def width(self, width, height=900):
+        """Makes the window this wide, or as narrow as it can be. Returns how wide it is."""
+        self.http("POST", f"{self.session}/window/rect", {"width": width, "height": height})
+        end = time.monotonic() + 1
+        while (now := self.run("return window.innerWidth")) != width and time.monotonic() < end:
+            time.sleep(0.05)
+        return now
+
+    def unshape(self):
+        self.width(1280, 1000)
 
     def close(self):
         """Ends the driver too, which xvfb-run leaves behind."""
@@ -354,6 +391,7 @@ class Firefox(Browser):
         factor = 2 if width < self.LEAST else 1
         self.zoom(factor)
         self.command("WebDriver:SetWindowRect", {"width": factor * width, "height": factor * 900})
+        return width
 
     def zoom(self, factor):
         """Zooms the page."""

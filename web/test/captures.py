@@ -43,6 +43,7 @@ WIDTHS = (400, 800, 1280, 1920)
 # Captures of two connections and of one.
 TRACED = ("vectors/captures/ngtcp2-0-rtt.pcap", "rust/capture/tests/data/small.pcap")
 NOTE = "return document.getElementById('filter-note').textContent"
+SAVE_TRACE = '[aria-label="Save as qlog, connection 0"]'
 
 
 def captures(top, folder="vectors/captures"):
@@ -194,7 +195,8 @@ def saved_otherwise(browser, address, top, program):
             subprocess.run(words, capture_output=True, check=False)
             traces = {os.path.basename(one): read(one) for one in sorted(glob.glob(f"{folder}/*.sqlog"))}
         if len(traces) == 1:
-            browser.run("document.querySelector('[aria-label=\"Save as qlog, connection 0\"]').click()")
+            browser.until("return document.querySelector(arguments[0])", "the connection", SAVE_TRACE)
+            browser.run("document.querySelector(arguments[0]).click()", SAVE_TRACE)
             same(browser.saved(next(iter(traces))), next(iter(traces.values())), f"the trace of {name}")
         else:
             browser.run("document.getElementById('save-traces').click()")
@@ -241,10 +243,10 @@ def walk(browser, packets):
     for one in packets:
         title = f"Record {one['record']}: {one['from']} to {one['to']}"
         browser.until("return document.getElementById('packet-title').textContent === arguments[0]", title, title)
-        note = browser.run("return document.getElementById('packet-note').textContent")
+        # Packets of one datagram have the same title.
         begin, end = one["packet_in_datagram"]
-        if f"bytes {begin}..{end}" not in note:
-            raise Failed(f"the note of a packet: {note}")
+        browser.until("return document.getElementById('packet-note').textContent.includes(arguments[0])",
+                      f"the note of {one}", f"bytes {begin}..{end}")
         if "payload_in_datagram" in one:
             start, stop = one["payload_in_datagram"]
             count = stop - start

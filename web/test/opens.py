@@ -4,7 +4,7 @@ import re
 import shutil
 import sys
 
-from browser import Chromium, Failed, Firefox
+from browser import Chromium, Failed, Firefox, WebKit
 from common import STATUS
 
 # In milliseconds.
@@ -33,7 +33,7 @@ def opens(kind, page):
 
 if __name__ == "__main__":
     try:
-        for command, kind in (("chromedriver", Chromium), ("firefox-esr", Firefox)):
+        for command, kind in (("chromedriver", Chromium), ("firefox-esr", Firefox), ("WebKitWebDriver", WebKit)):
             if shutil.which(command):
                 opens(kind, sys.argv[1])
     except Failed as failed:

@@ -42,7 +42,7 @@ def widths(browser, address):
     for width in WIDTHS:
         # With all choices, and what quic-show prints.
         browser.go(f"{address}#read=frames&quinn=1&hex=01")
-        browser.width(width)
+        width = browser.width(width)
         browser.until("return window.innerWidth === arguments[0]", f"a window of {width} pixels", width)
         for example in show_all(browser):
             what = f"{example}, {width} pixels"

@@ -26,6 +26,12 @@ import use
 from browser import Chromium, ELSEWHERE, Failed, Firefox, WebKit
 from common import STATUS, same
 
+# The browsers, each with the commands that it needs.
+KINDS = {
+    "chromium": (Chromium, ["chromedriver"]),
+    "firefox": (Firefox, ["firefox-esr"]),
+    "webkit": (WebKit, ["WebKitWebDriver", "xvfb-run"]),
+}
 PICTURES = [
     ("web-payload.png", 1280, 1180, "light", "", "#grid [data-place='12']"),
     ("web-datagram.png", 1280, 1000, "dark", 2, "#outline [data-item='0'][data-field='5']"),
@@ -108,8 +114,9 @@ def features(browser, host, top):
     """What the page does beyond reading one input."""
     address = f"{host}/index.html"
     print(f"  {initials.opened(browser, address, top)} Initial packets of RFC 9001 and 9369, as they are and changed")
-    initials.without_ciphers(browser, address.replace("127.0.0.1", ELSEWHERE))
-    print("  without ciphers the page says so")
+    if browser.CAN_PRETEND:
+        initials.without_ciphers(browser, address.replace("127.0.0.1", ELSEWHERE))
+        print("  without ciphers the page says so")
     print(f"  {tools.opened(browser, address)} packets of RFC 9001 are opened")
     print(f"  {tools.compared(browser, address)} pairs of inputs are compared")
     tools.picture(browser, address)
@@ -122,6 +129,7 @@ def features(browser, host, top):
 def all_captures(browser, host, words):
     """Captures, compared with what quic-wire prints."""
     address, top, program = f"{host}/index.html", words.top, words.quic_wire
+    captures.shown(browser, f"file://{words.site}/index.html", top, program)
     print(f"  {captures.shown(browser, address, top, program)} packets of a capture: rows, filters, bytes", flush=True)
     print(f"  {captures.all_agree(browser, address, top, program)} captures are saved as it prints them", flush=True)
     print(f"  {captures.broken_agree(browser, address, top, program)} captures with its findings", flush=True)
@@ -130,8 +138,9 @@ def all_captures(browser, host, words):
     print(f"  {captures.compressed(browser, address, top, program)} packets of a capture in compressed parts")
     captures.rejected(browser, address, top)
     print(f"  captures at {captures.widths(browser, address, top)} widths")
-    captures.forced_colors(browser, address, top)
-    print("  the chosen packet with forced colours")
+    if browser.CAN_PRETEND:
+        captures.forced_colors(browser, address, top)
+        print("  the chosen packet with forced colours")
     silent(browser, "captures")
 
 
@@ -151,15 +160,22 @@ def times(browser, host):
         print(f"  six times slower, 65536 bytes: at most {took:.0f} ms ({what}), a log in {listed:.0f} ms", flush=True)
 
 
+def contrasts(browser, address, scheme):
+    least, count = looks.contrast(browser, address)
+    print(f"  {scheme}: a contrast of {least:.1f} or more in {count} states", flush=True)
+
+
 def appearances(browser, host):
-    """Contrasts in both colour schemes, widths, paper, zoom, what the system prefers; in Chromium phones and the
-    accessibility tree."""
+    """Widths, contrasts; in both colour schemes, on paper, with zoom and what the system prefers, if that can be
+    tried; in Chromium phones and the accessibility tree."""
     address = f"{host}/index.html"
+    print(f"  {paper.widths(browser, address)} pages at {len(paper.WIDTHS)} widths: nothing is cut", flush=True)
+    if not browser.CAN_PRETEND:
+        contrasts(browser, address, "light")
+        return
     for scheme in ("light", "dark"):
         browser.media(**{"prefers-color-scheme": scheme})
-        least, count = looks.contrast(browser, address)
-        print(f"  {scheme}: a contrast of {least:.1f} or more in {count} states", flush=True)
-    print(f"  {paper.widths(browser, address)} pages at {len(paper.WIDTHS)} widths: nothing is cut", flush=True)
+        contrasts(browser, address, scheme)
     print(f"  on paper every row, in {paper.on_paper(browser, address)} colours", flush=True)
     looks.zoom(browser, address)
     looks.forced_colors(browser, address)
@@ -215,25 +231,12 @@ def try_browser(kind, words, host, groups):
         browser.close()
 
 
-def try_webkit(words, host):
-    """In WebKitGTK the page starts, from a server and from a file, and opens a capture."""
-    browser = WebKit()
-    try:
-        print(f"{browser.name} {browser.version}", flush=True)
-        for address in (f"{host}/index.html", f"file://{words.site}/index.html"):
-            browser.go(address)
-            print(f"  {browser.run(STATUS)}")
-            print(f"  {captures.shown(browser, address, words.top, words.quic_wire)} packets of a capture", flush=True)
-    finally:
-        browser.close()
-
-
 def arguments():
     words = argparse.ArgumentParser()
     for name in ("top", "site", "quic_show", "quic_wire", "layout"):
         words.add_argument(name)
     words.add_argument("--pictures")
-    words.add_argument("--browser", choices=("chromium", "firefox", "webkit"))
+    words.add_argument("--browser", choices=KINDS)
     return words.parse_args()
 
 
@@ -244,12 +247,9 @@ def main():
     with open(words.layout, encoding="ascii") as file:
         words.layout_lines = file.read().splitlines()
     host = serve(words.top, words.site)
-    kinds = {"chromium": Chromium, "firefox": Firefox}
-    for name, kind in kinds.items():
-        if words.browser in (None, name) and (name != "firefox" or shutil.which("firefox-esr")):
+    for name, (kind, needs) in KINDS.items():
+        if words.browser in (None, name) and all(map(shutil.which, needs)):
             try_browser(kind, words, host, groups)
-    if words.browser in (None, "webkit") and shutil.which("WebKitWebDriver") and shutil.which("xvfb-run"):
-        try_webkit(words, host)
 
 
 if __name__ == "__main__":

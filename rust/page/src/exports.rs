@@ -10,6 +10,7 @@ use crate::packed::Inflater;
 use quic_wire::Side;
 use quic_wire_capture::tls::Hello;
 use std::cell::RefCell;
+use std::collections::BTreeMap;
 
 // Why no capture is there.
 const NONE: &str = "no capture was begun";
@@ -21,7 +22,9 @@ struct State {
     words: String,
     engine: Option<Engine>,
     inflater: Inflater,
-    held: Vec<u8>,
+    // Bytes by the numbers with which they are chosen.
+    held: BTreeMap<u32, Vec<u8>>,
+    chosen: u32,
     versions: Vec<u32>,
 }
 
@@ -292,10 +295,16 @@ fn choices(flags: u32) -> Choices {
     Choices { rfc: has(1), short_types: has(2), grease: has(4), id_len: (flags >> 8) as usize }
 }
 
+/// Chooses by a number which bytes the functions below hold and read, 0 at first. All that are held stay.
+#[unsafe(no_mangle)]
+pub extern "C" fn bytes_choose(number: u32) {
+    with(|state| state.chosen = number);
+}
+
 /// Takes the input as the bytes that the functions below read.
 #[unsafe(no_mangle)]
 pub extern "C" fn bytes_hold() {
-    with(|state| state.held = std::mem::take(&mut state.input));
+    with(|state| _ = state.held.insert(state.chosen, std::mem::take(&mut state.input)));
 }
 
 /// Takes the input as the versions whose long headers are read, of 4 bytes each, the lowest byte first.
@@ -309,8 +318,9 @@ pub extern "C" fn bytes_versions() {
 
 // Acts on the held bytes from an offset on, up to a limit.
 fn with_held<T>(offset: u32, limit: u32, act: impl FnOnce(&[u8], &[u32], &mut Vec<u8>, &mut String) -> T) -> T {
-    with(|State { held, versions, output, words, .. }| {
+    with(|State { held, chosen, versions, output, words, .. }| {
         words.clear();
+        let held = held.get(chosen).map(Vec::as_slice).unwrap_or_default();
         let limit = held.len().min(limit as usize);
         act(held.get(offset as usize..limit).unwrap_or_default(), versions, output, words)
     })
@@ -400,7 +410,8 @@ pub extern "C" fn bytes_header(offset: u32, flags: u32) {
 /// the first 5 bytes of the input. Returns how many numbers there are: none if the packet is too short.
 #[unsafe(no_mangle)]
 pub extern "C" fn bytes_unprotect(begin: u32, end: u32, number_at: u32) -> usize {
-    with(|State { held, input, output, .. }| {
+    with(|State { held, chosen, input, output, .. }| {
+        let held = held.get(chosen).map(Vec::as_slice).unwrap_or_default();
         let packet = held.get(begin as usize..end as usize).unwrap_or_default();
         let mask = input.first_chunk();
         put(output, mask.and_then(|mask| bytes::unprotect(packet, number_at as usize, mask)).into_iter().flatten());

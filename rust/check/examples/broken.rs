@@ -28,9 +28,11 @@ fn main() -> Result<(), Box<dyn Error>> {
             fs::remove_file(path)?;
         }
     }
-    for case in cases::all() {
+    let cases = cases::all();
+    for case in &cases {
         fs::write(captures.join(case.file()), case.capture())?;
     }
     fs::write(folder.join("broken.json"), cases::manifest())?;
+    println!("{} has {} captures, and broken.json says what is in each", captures.display(), cases.len());
     Ok(())
 }

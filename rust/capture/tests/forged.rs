@@ -222,8 +222,10 @@ fn offloaded_without_ids() {
         forged.iter().for_each(|kept| follower.take(&kept.datagram(), &mut ()));
         begun.elapsed()
     };
-    let (first, later) = (take_all(&forged[..16]), take_all(&forged[16..]));
-    assert!(later < 4 * first, "16 took {first:?}, {} more {later:?}", forged.len() - 16);
+    let first = take_all(&forged[..16]);
+    // The least of several: other programs take time from some.
+    let later = forged[16..].chunks_exact(16).map(&mut take_all).min().unwrap_or_default();
+    assert!(4 * later < first, "16 took {first:?}, 16 of those after them {later:?}");
     follower.take(&segments(&mut made).datagram(), &mut ());
     assert_eq!((follower.counts().offloaded, follower.counts().segments), (2, 6));
 }

@@ -211,7 +211,8 @@ fn forged_segments() {
         begun.elapsed()
     };
     let first = time(8);
-    let later = time(8);
+    // The least of several: other programs take time from some.
+    let later = (0..20).map(|_| time(8)).min().unwrap_or_default();
     assert!(2 * later < first, "{later:?}, after {first:?} for as many");
     follower.take(&segments().datagram(), &mut ());
     assert_eq!((follower.counts().offloaded, follower.counts().segments), (2, 6));

@@ -97,15 +97,18 @@ fn authentic_packets_with_any_contents() {
     assert!(findings > 0);
 }
 
-// How long the datagrams from an index on take.
+// How long the datagrams from an index on take: the least of three times, since other programs take time from some.
 fn time_from(talk: &Talk, index: usize) -> Duration {
-    let (mut follower, mut checker) = (Follower::default(), Checker::default());
-    follower.keylog.add(talk.made.key_log().as_bytes());
-    let (before, after) = talk.all.split_at(index);
-    before.iter().for_each(|kept| checker.take(&kept.datagram(), &mut follower));
-    let begun = Instant::now();
-    after.iter().for_each(|kept| checker.take(&kept.datagram(), &mut follower));
-    begun.elapsed()
+    let time = |_| {
+        let (mut follower, mut checker) = (Follower::default(), Checker::default());
+        follower.keylog.add(talk.made.key_log().as_bytes());
+        let (before, after) = talk.all.split_at(index);
+        before.iter().for_each(|kept| checker.take(&kept.datagram(), &mut follower));
+        let begun = Instant::now();
+        after.iter().for_each(|kept| checker.take(&kept.datagram(), &mut follower));
+        begun.elapsed()
+    };
+    (0..3).map(time).min().unwrap_or_default()
 }
 
 // CRYPTO frames without bytes: those of the twelfth packet take about as long as those of the first.

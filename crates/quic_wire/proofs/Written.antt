@@ -2,6 +2,8 @@
 use Rattle.std.proofs.Common.{◌≡◌, ℕ, ◌+◌, List, [], ◌++◌, length, Option, None, Result, Ok, refl, sym, ap, ◌∙◌, subst, arith, append_assoc, length-append}
 use Rattle.std.specs.Prelude.{MatchOption, OnOk, Err}
 use Rattle.std.proofs.lemmas.List.{append-nil}
+use Rattle.quic_base.specs.Writing.{Writes}
+use Rattle.quic_base.proofs.Encoders.{Wrote, wrote_more, writes_within}
 use Rattle.quic_header_decode.specs.Grammar.{CutAnswer, HeaderAt}
 use Rattle.quic_header_decode.specs.Headers.{IsWithoutNumber}
 use Rattle.quic_header_decode.specs.Datagram.{CutPacket}
@@ -18,15 +20,36 @@ use Rattle.quic_wire.specs.Plain.{IsPlainInRange}
 
 -- ---- bytes that are appended
 
-pub puts_part : (old all now new part rest left : List ℕ) → left ≡ part ++ rest → now ++ left ≡ old ++ all
-    → new ≡ now ++ part → new ++ rest ≡ old ++ all
-puts_part old all now new part rest left split so_far text =
-    ap (λ (bytes : List ℕ). bytes ++ rest) text ∙ append_assoc now part rest
-    ∙ ap (λ (bytes : List ℕ). now ++ bytes) (sym split) ∙ so_far
+-- a part of all was appended, and left is to follow
+pub record HasPut (all left old now : List ℕ) (spare spare' : ℕ) : Type 0 where
+  pub done : List ℕ
+  pub split : all ≡ done ++ left
+  pub wrote : Wrote done old spare now spare'
 
-pub puts_all : (old all now left : List ℕ) → left ≡ [] → now ++ left ≡ old ++ all → now ≡ old ++ all
-puts_all old all now left none so_far =
-    sym (append-nil now) ∙ ap (λ (bytes : List ℕ). now ++ bytes) (sym none) ∙ so_far
+pub puts_part : {E : Type 0} (result : Result (Unit {0}) E) (all left old now new part rest : List ℕ) (s s1 s2 : ℕ)
+    → HasPut all left old now s s1 → left ≡ part ++ rest → Writes result part now s1 new s2 → result ≡ Ok tt
+    → HasPut all rest old new s s2
+puts_part result all left old now new part rest s s1 s2 so_far split write ok = record {
+  done = so_far.done ++ part;
+  split = so_far.split ∙ ap (λ (l : List ℕ). so_far.done ++ l) split ∙ sym (append_assoc so_far.done part rest);
+  wrote = wrote_more result so_far.done part old now new s s1 s2 so_far.wrote write ok;
+}
+
+pub puts_all : (all left old now : List ℕ) (s s1 : ℕ) → HasPut all left old now s s1 → left ≡ [] → Wrote all old s now s1
+puts_all all left old now s s1 so_far none =
+    subst (λ (l : List ℕ). Wrote l old s now s1)
+    (sym (so_far.split ∙ ap (λ (l : List ℕ). so_far.done ++ l) none ∙ append-nil so_far.done)) so_far.wrote
+
+pub writes_all : {E : Type 0} (all old now : List ℕ) (s s1 : ℕ) → Wrote all old s now s1
+    → Writes {E = E} (Ok tt) all old s now s1
+writes_all all old now s s1 wrote = record { ok = wrote.stands; err = tt; full = tt; room = wrote.room }
+
+pub puts_some : {D E : Type 0} (result : Result (Unit {0}) E) (refused : Result (Unit {0}) D) (d : D)
+    (all left old now new part rest : List ℕ) (s s1 s2 : ℕ) (e : E) → HasPut all left old now s s1 → left ≡ part ++ rest
+    → Writes result part now s1 new s2 → result ≡ Err e → refused ≡ Err d → Writes refused all old s new s2
+puts_some result refused d all left old now new part rest s s1 s2 e so_far split write is fails =
+    writes_within result refused d so_far.done part rest all old now new s s1 s2 e
+    (so_far.split ∙ ap (λ (l : List ℕ). so_far.done ++ l) split) so_far.wrote write is fails
 
 -- what was written into an empty buffer is its content
 pub content_is : {T E : Type 0} (result : Result T E) (x : T) (old new content bytes : List ℕ) → content ≡ new

@@ -1,7 +1,8 @@
 //! Functions that return what the laws speak of, or report that memory ran out. Each is proved from public contracts.
-ghost use Rattle.std.specs.Prelude.{◌↔◌, false, ◌≡◌, ◌≢◌, ◌++◌, ◌+◌, ◌<◌, ◌≤◌, ℕ, List, [], All, length, map, codes, IfErr, IfOk, IfSome, IsErrOf, IsTrue, MatchBool, MatchResult, OnErr, OnOk, vec_capacity, vec_len};
+ghost use Rattle.std.specs.Prelude.{◌↔◌, false, ◌≡◌, ◌≢◌, ◌++◌, ◌+◌, ◌-◌, ◌<◌, ◌≤◌, ℕ, List, [], All, length, map, codes, IfErr, IfOk, IfSome, IsErrOf, IsTrue, MatchBool, MatchResult, OnErr, OnOk, vec_capacity, vec_len};
 ghost use Rattle.quic_base.specs.Number.{AreBytes};
 ghost use Rattle.quic_base.specs.One.{ReturnsOne};
+ghost use Rattle.quic_base.specs.Writing.{Writes};
 ghost use Rattle.quic_canon.specs.Least.{IsLeast};
 ghost use Rattle.quic_canon.specs.Refusal.{IsRefused, IsWrong};
 ghost use Rattle.quic_frame_fields.specs.Payload.{Complete, IsReadingOf, Reading, TypedFrame};
@@ -18,7 +19,7 @@ ghost use Rattle.quic_header_encode.specs.Kinds.{space_in};
 ghost use Rattle.quic_header_encode.specs.Writing.{header_bytes};
 ghost use Rattle.quic_packets.specs.Opening.{AreExpected, BeginsSealed, Opens, PacketAnswer, ReturnsSealed, packet_of};
 ghost use Rattle.quic_packets.specs.Pairs.{IsLawful};
-ghost use Rattle.quic_packets.specs.Sealing.{IsAppended, PacketContents};
+ghost use Rattle.quic_packets.specs.Sealing.{IsAppended, PacketContents, payload_of};
 ghost use Rattle.quic_params.specs.Meaning.{IsReadAnswer};
 ghost use Rattle.quic_params.specs.Options.{as_quinn};
 ghost use Rattle.quic_params.specs.Range.{IsRecordInRange, plain};
@@ -313,10 +314,13 @@ pub fn parameters_read_back(
     }
 }
 
-/// Appends frames with `Frame::encode`, the last one as the last of its payload.
+/// Appends frames with `Frame::encode`, the last one as the last of its payload. If memory runs out, the buffer has its
+/// old contents, and possibly a prefix of the payload after them; with room for the payload it doesn't.
 pub fn write_payload(frames: &[Frame<'_>], out: &mut Vec<u8>) -> Result<(), NoRoom>
     requires { CanFollow frames.now }
-    ensures { OnOk result (IsAppended (IsPayload frames.now) out.old.items out.new.items) }
+    ensures appended { OnOk result (IsAppended (IsPayload frames.now) out.old.items out.new.items) }
+    ensures written { Writes result (payload_of frames.now) out.old.items (vec_capacity out.old - vec_len out.old)
+        out.new.items (vec_capacity out.new - vec_len out.new) }
 {
     are_typed(frames);
     read_back();
@@ -337,13 +341,19 @@ fn are_typed(frames: &[Frame<'_>])
     }
 }
 
-/// Cuts a datagram that begins with a written Retry or version negotiation: its header is what was written, and the
-/// only error is that memory ran out.
+/// Cuts the first packet from a datagram with `cut_first`, without what follows it. If the datagram begins with a
+/// written Retry or version negotiation, its header is what was written, and the only error is that memory ran out.
 pub fn cut_plain<P: ConnectionIdParser>(
     datagram: BytesMut,
     options: &DecodeOptions<'_, P>,
 ) -> Result<PartialDecode, PacketDecodeError>
-    ensures { (header : Header) (rest : List ℕ) → datagram.items ≡ header_bytes header ++ rest
+    ensures one { ReturnsOne (CutAnswer (read_by (P.parsed options.now.parser.now) options.now.versions.now
+        options.now.grease) datagram.items) (GivesRead (λ x. (x.head, x.header_end, length x.bytes)) result) }
+    ensures cut { IfOk result (λ x. (rest : List ℕ) × CutsFirst (read_by (P.parsed options.now.parser.now)
+        options.now.versions.now options.now.grease) datagram.items x rest) }
+    ensures refused { IfErr result (λ e. IsUncut (read_by (P.parsed options.now.parser.now) options.now.versions.now
+        options.now.grease) (P.takes_memory options.now.parser.now) datagram.items e) }
+    ensures plain { (header : Header) (rest : List ℕ) → datagram.items ≡ header_bytes header ++ rest
         → IsPlainInRange (read_by (P.parsed options.now.parser.now) options.now.versions.now options.now.grease) header
         → MatchResult result (λ x. IsWithoutNumber x.head header) (λ e. e ≡ PacketDecodeError.OutOfMemory) }
 {

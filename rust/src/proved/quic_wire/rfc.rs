@@ -24,8 +24,9 @@ use crate::proved::quic_base::ids::Side;
 use crate::proved::quic_frames::frame::Rules;
 use crate::proved::quic_params::transport_parameters::{Error, ReadOptions, TransportParameters};
 
-/// By RFC 9000's rules, with the ACK frequency extension or without it, every payload has one reading, and it has no
-/// error exactly if the payload is allowed.
+/// By RFC 9000's rules, with the ACK frequency extension or without it, every payload has one reading. That of a
+/// payload with bytes has no error exactly if the payload is allowed; an empty one is never allowed (section 12.4), and
+/// calls report it before they read.
 pub fn rfc_payloads() { #![doc = "# Contract\n```text"]
     //! ensures one { (negotiated : Bool) (payload : List ℕ) → AreBytes payload
     //!     → ExactlyOne (IsCheckedOf (rfc_rules negotiated) payload) }

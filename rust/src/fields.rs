@@ -1,9 +1,10 @@
 //! Where each field of a frame, of a packet or of a transport parameter is in its bytes, and which field is at fault in
 //! bytes that are rejected: for tools that show bytes, and for messages about bytes from a peer. It is slower than the
-//! readers.
+//! readers. No field of a packet is at fault if its header is read but something else is missing: the rest of its
+//! length, or a Retry's token or tag.
 //!
-//! Fields have indices. Index 0 of a frame is its type, and then come the fields that RFC 9000, section 19, lists. The
-//! repository's docs/formats.json has their names.
+//! Fields have indices. Index 0 of a frame is its type, and then come FIN or the direction of streams, which the type
+//! says, and the fields in the order of RFC 9000, section 19. The repository's docs/formats.json has their names.
 //!
 //! ```
 //! use quic_wire::fields;

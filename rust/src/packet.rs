@@ -45,9 +45,9 @@ pub use opening::{OpenError, Opened, Packets};
 pub use seal::SealError;
 
 impl PacketNumber {
-    /// The low part of `n` for a receiver that has acknowledged `largest_acked` (RFC 9000, appendix A.2). It has the
-    /// fewest bytes, 1, 2, 3 or 4, with which a receiver that expects a number from `largest_acked` to `n + 1` finds
-    /// `n`. [`PacketNumber::try_new`] returns `None` instead of panicking.
+    /// The low part of `n` for a receiver that has acknowledged `largest_acked`. It has the fewest bytes, 1, 2, 3 or 4,
+    /// that represent more than twice the distance (RFC 9000, section 17.1), so a receiver that expects a number from
+    /// `largest_acked` to `n + 1` finds `n`. [`PacketNumber::try_new`] returns `None` instead of panicking.
     ///
     /// ```
     /// use quic_wire::packet::PacketNumber;
@@ -360,6 +360,10 @@ pub fn seal_packet<H: HeaderKey, P: PacketKey>(
     };
     if let Some(what) = what {
         return Err(WriteError::OutOfRange(what).into());
+    }
+    if frames.iter().any(Frame::names_padding) {
+        let frames: Vec<_> = frames.iter().map(Frame::without_padding).collect();
+        return seal_packet(header, number, &frames, keys, out);
     }
     let (last, others) = frames.split_last().unwrap_or((&Frame::Padding, &[]));
     last.check(true)?;

@@ -215,7 +215,6 @@ fn what_is_out_of_range_is_named() {
         let (id, reset_token) = (ConnectionId::new(id), [9; 16].into());
         Frame::NewConnectionId(NewConnectionId { sequence: 4, retire_prior_to, id, reset_token })
     };
-    let close = ConnectionClose { error_code: Code::NO_ERROR, frame_type: Some(FrameType::PADDING), reason: b"" };
     let stream = Stream { id: StreamId::default(), offset: 1 << 62, fin: false, bytes: b"x" };
     let number = "a number or a length in the frame is 2^62 or more";
     let refused = [
@@ -223,7 +222,6 @@ fn what_is_out_of_range_is_named() {
         (Frame::RetireConnectionId { sequence: u64::MAX }, number),
         (new(&[], 0), "a connection id is empty"),
         (new(&[7; 20], 5), "a connection id retires itself"),
-        (Frame::Close(close.into()), "a close names PADDING, whose type means that none is known"),
         (Frame::Stream(stream), number),
         (Frame::Crypto(Crypto { offset: 1 << 62, bytes: b"" }), number),
         (Frame::MaxStreams { dir: Dir::Uni, count: 1 << 62 }, number),
@@ -236,6 +234,21 @@ fn what_is_out_of_range_is_named() {
         assert!(out.is_empty() && !frame.in_range() && error.to_string() == what);
     }
     assert_eq!(new(&[7; 20], 4).encoded_len(false), Ok(40));
+}
+
+// A type is cut off behind PADDING, which is the type that is reported: its number means that none is known.
+#[test]
+fn a_close_names_padding() {
+    let error = Iter::new(&[0x00, 0x40]).unwrap().find_map(Result::err).unwrap().to_error();
+    assert_eq!(error.frame, Some(FrameType::PADDING));
+    let frame = Frame::Close(Close::from(&error));
+    let expected = [&[0x1c, 0x07, 0x00, 14][..], b"unexpected end"].concat();
+    assert_eq!(written(&frame, false), expected);
+    let mut out = [0; 18];
+    assert_eq!((frame.encoded_len(true), frame.encode_into(true, &mut out)), (Ok(18), Ok(18)));
+    assert_eq!(out[..], expected);
+    assert_eq!((frame.encode_body_into(true, &mut out), &out[..17]), (Ok(17), &expected[1..]));
+    assert_eq!(frame.encode_into(true, &mut out[..17]), Err(WriteError::NoRoom));
 }
 
 #[test]

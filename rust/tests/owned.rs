@@ -1,12 +1,13 @@
 //! Packets that own their bytes: cut, sealed and opened with keys that are easy to see through.
 use bytes::BytesMut;
 use quic_wire::crypto::{CryptoError, HeaderKey, PacketKey};
-use quic_wire::frame::{Crypto, Frame, Iter};
+use quic_wire::frame::{ConnectionClose, Crypto, Frame, FrameType, Iter};
 use quic_wire::packet::{
     DecodeOptions, Expected, FixedLengthConnectionIdParser, Header, InitialHeader, Keys, LongType, OpenError,
     PacketDecodeError, PacketNumber, Packets, PartialDecode, SealError, SpaceId, SpaceKeys, open_datagram, open_packet,
     seal_packet,
 };
+use quic_wire::transport_error::Code;
 use quic_wire::{ConnectionId, Error, WriteError};
 
 /// Masks the low bits of the first byte, and the packet number, with the first byte of the sample.
@@ -157,6 +158,19 @@ fn a_header_is_written_and_finished() {
     let bytes = BytesMut::from(&packet[1..]);
     let (opened, rest) = open_packet(bytes, &PARSER(), &[1], false, &spaces(), &expected).unwrap();
     assert_eq!((opened.number, &opened.payload[..], rest), (Some(0x0102), &[1; 4][..], None));
+}
+
+// A close that names PADDING is sealed as one that names no type.
+#[test]
+fn a_close_that_names_padding_is_sealed() {
+    let seal = |frame_type| {
+        let close = ConnectionClose { error_code: Code::FRAME_ENCODING_ERROR, frame_type, reason: b"why" };
+        let mut out = vec![];
+        let frames = [Frame::Ping, Frame::Close(close.into())];
+        seal_packet(&short(PacketNumber::U8(5)), 5, &frames, &keys(1), &mut out).map(|len| (len, out))
+    };
+    assert_eq!(seal(Some(FrameType::PADDING)), seal(None));
+    assert!(seal(None).is_ok());
 }
 
 #[test]

@@ -31,14 +31,29 @@ fn why_not(frame: &Frame<'_>) -> WriteError {
         Frame::NewConnectionId(new) if new.retire_prior_to > new.sequence => {
             WriteError::OutOfRange("a connection id retires itself")
         }
-        Frame::Close(Close::Connection(close)) if close.frame_type == Some(FrameType::PADDING) => {
-            WriteError::OutOfRange("a close names PADDING, whose type means that none is known")
-        }
         _ => TOO_LARGE,
     }
 }
 
-impl Frame<'_> {
+impl<'a> Frame<'a> {
+    // Whether it is a close that names PADDING, whose type means that none is known (RFC 9000, section 19.19).
+    #[inline]
+    pub(crate) fn names_padding(&self) -> bool {
+        matches!(self, Frame::Close(Close::Connection(close)) if close.frame_type == Some(FrameType::PADDING))
+    }
+
+    // The frame; of one that names PADDING, that which names no type. The proved functions write no other, and both
+    // are the same bytes.
+    #[cold]
+    pub(crate) fn without_padding(&self) -> Frame<'a> {
+        match self {
+            Frame::Close(Close::Connection(close)) if self.names_padding() => {
+                Frame::Close(ConnectionClose { frame_type: None, ..*close }.into())
+            }
+            frame => *frame,
+        }
+    }
+
     // What the proved functions require: the frame is in range, and so is a length that is written.
     #[inline]
     pub(crate) fn check(&self, last: bool) -> Result {
@@ -65,13 +80,17 @@ impl Frame<'_> {
     ///
     /// # Errors
     ///
-    /// If the frame isn't in range ([`Frame::in_range`]): nothing is written then. If there is too little room: a
-    /// prefix of the frame may be written then.
+    /// If the frame isn't in range ([`Frame::in_range`]), except that a close may name PADDING, which is written as one
+    /// that names no type (RFC 9000, section 19.19): nothing is written then. If there is too little room: a prefix of
+    /// the frame may be written then.
     #[doc = include_str!("../proved/contracts/Frame.encode.md")]
     #[inline]
     pub fn encode<B: BufMut>(&self, last: bool, out: &mut B) -> Result {
-        self.check(last)?;
-        Ok(self.proved_encode(last, out)?)
+        match self.check(last) {
+            Ok(()) => Ok(self.proved_encode(last, out)?),
+            Err(_) if self.names_padding() => self.without_padding().encode(last, out),
+            Err(why) => Err(why),
+        }
     }
 
     /// Stores the shortest encoding of the frame at the front of a slice, and returns how many bytes it has. It doesn't
@@ -85,12 +104,16 @@ impl Frame<'_> {
     ///
     /// # Errors
     ///
-    /// If the frame isn't in range, or the slice is shorter than [`Frame::encoded_len`]. Nothing changes then.
+    /// If [`Frame::encode`] can't write the frame, or the slice is shorter than [`Frame::encoded_len`]. Nothing changes
+    /// then.
     #[doc = include_str!("../proved/contracts/Frame.encode_into.md")]
     #[inline]
     pub fn encode_into(&self, last: bool, dest: &mut [u8]) -> Result<usize> {
-        self.check(last)?;
-        self.proved_encode_into(last, dest).map_err(|_| WriteError::NoRoom)
+        match self.check(last) {
+            Ok(()) => self.proved_encode_into(last, dest).map_err(|_| WriteError::NoRoom),
+            Err(_) if self.names_padding() => self.without_padding().encode_into(last, dest),
+            Err(why) => Err(why),
+        }
     }
 
     /// Stores the body of the frame, what [`Frame::encode_into`] stores behind the type, which is
@@ -106,12 +129,15 @@ impl Frame<'_> {
     ///
     /// # Errors
     ///
-    /// If the frame isn't in range, or the slice is shorter than the body. Nothing changes then.
+    /// If [`Frame::encode`] can't write the frame, or the slice is shorter than the body. Nothing changes then.
     #[doc = include_str!("../proved/contracts/Frame.encode_body_into.md")]
     #[inline]
     pub fn encode_body_into(&self, last: bool, dest: &mut [u8]) -> Result<usize> {
-        self.check(last)?;
-        self.proved_encode_body_into(last, dest).map_err(|_| WriteError::NoRoom)
+        match self.check(last) {
+            Ok(()) => self.proved_encode_body_into(last, dest).map_err(|_| WriteError::NoRoom),
+            Err(_) if self.names_padding() => self.without_padding().encode_body_into(last, dest),
+            Err(why) => Err(why),
+        }
     }
 
     /// How many bytes [`Frame::encode`] appends. It doesn't allocate.
@@ -124,12 +150,15 @@ impl Frame<'_> {
     ///
     /// # Errors
     ///
-    /// If the frame isn't in range.
+    /// If [`Frame::encode`] can't write the frame.
     #[doc = include_str!("../proved/contracts/Frame.encoded_len.md")]
     #[inline]
     pub fn encoded_len(&self, last: bool) -> Result<usize> {
-        self.check(last)?;
-        usize::try_from(self.proved_encoded_len(last)).map_err(|_| TOO_LARGE)
+        match self.check(last) {
+            Ok(()) => usize::try_from(self.proved_encoded_len(last)).map_err(|_| TOO_LARGE),
+            Err(_) if self.names_padding() => self.without_padding().encoded_len(last),
+            Err(why) => Err(why),
+        }
     }
 }
 

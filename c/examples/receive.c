@@ -12,9 +12,13 @@
 
 enum { CIDLEN = 4 };
 static const uint32_t versions[] = {QUIC_WIRE_VERSION_1};
-/* The packet number that is expected next, by kind of packet: 60,000 1-RTT
- * packets were received. */
-static uint64_t expected[5] = {0, 0, 0, 0, 60000};
+/* The spaces of packet numbers, one of which 0-RTT and 1-RTT packets share, by
+ * kind of packet. */
+enum { INITIAL, HANDSHAKE, DATA };
+static const uint8_t spaces[] = {INITIAL, DATA, HANDSHAKE, INITIAL, DATA};
+/* The packet number that is expected next: 60,000 1-RTT packets were
+ * received. */
+static uint64_t expected[] = {0, 0, 60000};
 
 static void handle(const quic_wire_frame *frame, const uint8_t *payload,
                    size_t len) {
@@ -81,7 +85,9 @@ static void read_packet(uint8_t *packet, const quic_wire_header *header) {
   const uint8_t *sample =
       quic_wire_sample(packet, header->end, header->header_end, 16);
   const size_t place = header->header_end;
+  const int is_short = header->kind == QUIC_WIRE_PACKET_1RTT;
   uint8_t mask[5], *payload;
+  uint64_t *next;
   uint64_t number;
   size_t len;
   int n;
@@ -89,17 +95,22 @@ static void read_packet(uint8_t *packet, const quic_wire_header *header) {
       header->kind == QUIC_WIRE_PACKET_VERSION_NEGOTIATION)
     return;
   make_mask(mask, sample);
-  n = quic_wire_unprotect(packet, header->end, place, mask,
-                          expected[header->kind], &number);
+  next = &expected[spaces[header->kind]];
+  n = quic_wire_unprotect(packet, header->end, place, mask, *next, &number);
   if (n < 0)
     return;
   payload = packet + place + n;
   len = header->end - place - (size_t)n;
   if (!open_sealed(number, payload, len))
     return;
-  expected[header->kind] = number + 1;
+  if (*next <= number)
+    *next = number + 1;
   printf(" %s %" PRIu64 "\n", names[header->kind], number);
-  read_payload(header->kind, payload, len - TAG);
+  /* Reserved bits are 0 (sections 17.2 and 17.3.1), or PROTOCOL_VIOLATION. */
+  if (packet[0] & (is_short ? 0x18 : 0x0c))
+    close_with(0x0a, QUIC_WIRE_NO_TYPE);
+  else
+    read_payload(header->kind, payload, len - TAG);
 }
 
 static void read_datagram(uint8_t *bytes, size_t len) {

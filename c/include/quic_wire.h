@@ -42,9 +42,12 @@
  *               payload + frame.data, frame.datalen);
  *   }
  *   // 0: all frames were read, and may be there.  Below 0:
- *   // quic_wire_close_code(answer) is the code to close with, and
- *   // frames.offset the end of the last frame that was read (not set if the
- *   // payload is empty).
+ *   // quic_wire_close_code(answer) is the code to close with.  A frame that is
+ *   // invalid begins at frames.offset, where the last one ended, and
+ *   // quic_wire_error_type(&frame) is its type.  After
+ *   // QUIC_WIRE_ERR_FRAME_PACKET, _SENDER and _STREAM, which
+ *   // quic_wire_frame_permitted returns, it is frame itself, at frame.begin,
+ *   // of frame.type.  An empty payload sets neither.
  *
  * Open the packets of a datagram.  make_mask and open_payload are your cipher;
  * |expected| is the packet number that you expect next, below 2^62:
@@ -61,7 +64,9 @@
  *                                       mask, expected, &number);
  *       size_t begin = header.header_end + (size_t)numberlen;
  *       size_t sealedlen = header.end - begin;
- *       open_payload(number, packet, begin, packet + begin, sealedlen);
+ *       if (open_payload(number, packet, begin, packet + begin, sealedlen) &&
+ *           packet[0] & (header.kind == QUIC_WIRE_PACKET_1RTT ? 0x18 : 0x0c))
+ *         close_with(0x0a); // reserved bits: PROTOCOL_VIOLATION (17.2, 17.3.1)
  *     }
  *     packet += header.end;
  *     len -= header.end;
@@ -327,7 +332,8 @@ typedef enum quic_wire_code {
 /** Each flag except QUIC_WIRE_READ_GREASED_BIT: what RFC 9000 requires of the
  * bytes alone, if no extension was negotiated.  In which packets, from which
  * side and on which streams a frame may come, quic_wire_frame_permitted checks.
- * You check that you offered to receive DATAGRAM. */
+ * You check that you offered to receive DATAGRAM, and the reserved bits of a
+ * packet that was opened (17.2, 17.3.1). */
 #define QUIC_WIRE_READ_RFC 0x3efu
 
 /* ---- Flags of writers */
@@ -719,7 +725,8 @@ typedef struct quic_wire_refusal {
 
 /** A field of a frame, of a packet or of an entry of transport parameters:
  * where it is in the bytes that were read.  Each begins where the one before it
- * ends.  docs/formats.json has the names of the fields by their indices. */
+ * ends.  formats.json, which is installed in share/doc, has the names of the
+ * fields by their indices. */
 typedef struct quic_wire_span {
   quic_wire_size field; /* its index: 0 is the frame's type, the packet's first
                            byte or the parameter's id, 1 what follows it */
@@ -748,10 +755,12 @@ typedef struct quic_wire_fields {
                        1 the first range, then in turn a gap and a length */
 } QUIC_WIRE_ALIGNED quic_wire_fields;
 
-/** How many fields there are at most, as array sizes. */
+/** How many fields there are at most, as array sizes: of a frame, of a packet,
+ * of an entry of transport parameters, and of a parameter's value. */
 #define QUIC_WIRE_FRAME_FIELDS 7
 #define QUIC_WIRE_PACKET_FIELDS 8
 #define QUIC_WIRE_PARAM_FIELDS 2
+#define QUIC_WIRE_PARAM_VALUE_FIELDS 6
 
 /** The index of no field. */
 #define QUIC_WIRE_NO_FIELD ((size_t)-1)
@@ -821,9 +830,10 @@ QUIC_WIRE_CHECKED extern int quic_wire_check(uint32_t header);
  * The code with which an endpoint closes the connection after |result|:
  * FRAME_ENCODING_ERROR, PROTOCOL_VIOLATION, STREAM_STATE_ERROR or
  * TRANSPORT_PARAMETER_ERROR if its peer broke a rule; INTERNAL_ERROR for the
- * caller's mistakes, -1 to -9; NO_ERROR, 0, for all others, after which nothing
- * is closed: results from 0 on, QUIC_WIRE_ERR_LIBRARY, and
- * QUIC_WIRE_ERR_PACKET_..., whose packets are dropped.
+ * caller's mistakes, -1 to -9 but QUIC_WIRE_ERR_LIBRARY; NO_ERROR, 0, for all
+ * others, after which nothing is closed: results from 0 on,
+ * QUIC_WIRE_ERR_LIBRARY, and QUIC_WIRE_ERR_PACKET_..., whose packets are
+ * dropped.
  */
 QUIC_WIRE_API uint32_t quic_wire_close_code(int result);
 
@@ -1074,8 +1084,10 @@ QUIC_WIRE_CHECKED QUIC_WIRE_API int
 quic_wire_frame_permitted(const quic_wire_frame *frame, uint32_t packet,
                           uint32_t sender, uint32_t flags);
 
-/** After QUIC_WIRE_ERR_FRAME_...: the type of the invalid frame, below 2^62.
- * If the bytes end within that type, it is the type of the frame before, as in
+/** After QUIC_WIRE_ERR_FRAME_END to QUIC_WIRE_ERR_FRAME_LIMIT (-21 to -25): the
+ * type of the invalid frame, below 2^62.  After those from
+ * QUIC_WIRE_ERR_FRAME_PACKET on a frame was read, whose type is |frame->type|.
+ * If the bytes end within the type, it is the type of the frame before, as in
  * quinn-proto, or QUIC_WIRE_NO_TYPE if there is none; write that as 0 into a
  * CONNECTION_CLOSE.  |frame->kind| is then no kind, 0xffff, and |frame->type|
  * is 0. */
@@ -1089,8 +1101,9 @@ QUIC_WIRE_API uint64_t quic_wire_error_type(const quic_wire_frame *frame);
  * yet, only what comes before them.  If one of the calls above read the whole
  * ACK, its ranges are valid; otherwise the call that reaches an invalid range
  * reports it.  Returns 0; QUIC_WIRE_ERR_PLACE if no ACK begins at
- * |frame->begin|; QUIC_WIRE_ERR_ARGUMENT for NULL.  |ranges| changes only with
- * 0.
+ * |frame->begin|, or |frame| has another kind, or an end before the ranges or
+ * outside of the payload; QUIC_WIRE_ERR_ARGUMENT for NULL.  |ranges| changes
+ * only with 0.
  */
 QUIC_WIRE_CHECKED QUIC_WIRE_API int
 quic_wire_ack_ranges_init(quic_wire_range_iter *ranges, const uint8_t *payload,
@@ -2062,7 +2075,7 @@ quic_wire_param_fields(const uint8_t *list, size_t listlen,
 /**
  * Where the fields of the |value| of the parameter with this |id| are (RFC
  * 9000, section 18.2): one field if the value is a number, an id, a token, or
- * that of an unknown parameter; none if it has no bytes; those of
+ * that of an unknown parameter; none if it is a flag; those of
  * preferred_address in the order of docs/formats.json, the id with its length.
  * Index 0 is the first of them.  A span's |number| is the value of a number or
  * a port, else how many bytes there are.  With QUIC_WIRE_READ_ANY_WIDTH an

@@ -66,14 +66,20 @@ static void seal_payload(uint64_t number, const uint8_t *packet,
   memset(payload + len, (int)number, 16);
 }
 
-static void open_payload(uint64_t number, const uint8_t *packet,
-                         size_t headerlen, uint8_t *payload, size_t len) {
+static int open_payload(uint64_t number, const uint8_t *packet,
+                        size_t headerlen, uint8_t *payload, size_t len) {
   check(packet + headerlen == payload && number == 1, "another packet");
   check(payload[len - 16] == 1 && payload[len - 1] == 1, "another tag");
   turn(payload, len - 16);
   read_payload(payload, len - 16, QUIC_WIRE_PACKET_HANDSHAKE,
                QUIC_WIRE_SIDE_CLIENT);
   opened++;
+  return 1;
+}
+
+static void close_with(uint64_t code) {
+  (void)code;
+  check(0, "reserved bits that are set");
 }
 
 static void open_packets(uint8_t *packet, size_t len) {

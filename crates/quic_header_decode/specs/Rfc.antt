@@ -18,8 +18,9 @@ with_grease grease options = record options { grease = grease }
 
 -- ---- the packet
 
--- The text leaves open how many bytes the ids of a version negotiation have: here at most 20, as in a packet that it
--- answers. Its list of versions isn't part of the header.
+-- The ids of a version negotiation may have 255 bytes (section 17.2.1). Here they have at most 20, since they are those
+-- of the packet that it answers, whose version is known. Its list of versions isn't part of the header: whether there is
+-- one, without a part of a version, the client checks (RFC 8999, section 6).
 abbrev pub IsNegotiation : ProtectedHeader → Type 0
 IsNegotiation (protected.VersionNegotiate random dst src) = ⊤
 IsNegotiation h = ⊥

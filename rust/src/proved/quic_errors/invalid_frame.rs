@@ -11,8 +11,8 @@ use std::fmt;
 pub struct InvalidFrame {
     /// The last type that was read, which may be that of the invalid frame itself. `None` if none was.
     pub ty: Option<FrameType>,
-    /// `unexpected end`, `invalid frame ID` or `malformed`. If types must be in their shortest encoding, also `frame
-    /// type not in shortest form`.
+    /// `unexpected end`, `invalid frame ID` or `malformed`. By rules that are asked for, also `frame type not in
+    /// shortest form` and `limit exceeded`.
     pub reason: &'static str,
 }
 

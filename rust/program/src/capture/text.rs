@@ -231,7 +231,7 @@ impl Form for Text<'_> {
         for (what, name) in names.iter().filter_map(|(what, name)| Some((what, name.as_ref()?))) {
             put!(self.lines, ", {what} {}", Value::Text(name));
         }
-        let (first, last) = connection.times();
+        let (first, last) = sum.times();
         let [first, last] = [first, last].map(|time| Seconds(words::after(sum.begun, time)));
         put!(self.lines, ", {first} to {last}");
         self.field(&("first_dst", Value::bytes(connection.first_dcid())));

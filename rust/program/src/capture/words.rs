@@ -126,6 +126,7 @@ pub fn ended(sum: &Sum<'_>) -> String {
     said.extend(reset.map(|side| format!("the {} sent a stateless reset", side_name(side))));
     match how {
         _ if !said.is_empty() => said.join("; "),
+        Some(Ended::Silent) | None if sum.ends_shut() => "not known: its last packets weren't opened".into(),
         Some(Ended::Silent) => "nothing more came, until it had timed out".into(),
         Some(Ended::Crowded) => "it was forgotten, since there were too many at once".into(),
         Some(Ended::Closed) => "it was closed".into(),

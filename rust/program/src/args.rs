@@ -8,7 +8,7 @@ use crate::input::Plain;
 pub use capture::{Captures, Filter};
 use capture::{connection, frames, numbers};
 pub use check::{Checks, Place};
-use check::{PLACES, allowance};
+use check::{PLACES, allowance, percent};
 use quic_wire::datagram::HeaderChecks;
 use quic_wire::frame::Rules;
 use quic_wire::packet::DEFAULT_SUPPORTED_VERSIONS;
@@ -97,7 +97,7 @@ const fn known(name: &'static str, value: Option<&'static str>, modes: &'static 
     Known { name, value, modes }
 }
 
-const OPTIONS: [Known; 26] = [
+const OPTIONS: [Known; 27] = [
     known("--help", None, &[]),
     known("--version", None, &[]),
     known("--json", None, &[]),
@@ -123,6 +123,7 @@ const OPTIONS: [Known; 26] = [
     known("--should", None, &["check"]),
     known("--at", Some("client, server or path"), &["check"]),
     known("--allow", Some("a rule and why it may be broken, as RULE=REASON"), &["check"]),
+    known("--opened", Some("how many of a hundred packets must be opened"), &["check"]),
     known("--sarif", None, &["check"]),
 ];
 
@@ -151,6 +152,7 @@ struct Options {
     should: bool,
     at: Option<Place>,
     allowed: Vec<(String, String)>,
+    opened: Option<u8>,
     sarif: bool,
     // Those that not all modes accept.
     of_modes: Vec<&'static Known>,
@@ -249,6 +251,7 @@ impl Options {
             "--should" => self.should = true,
             "--at" => self.at = Some(choice(option, value, &PLACES)?),
             "--allow" => self.allowed.push(allowance(value)?),
+            "--opened" => self.opened = Some(percent(value)?),
             "--sarif" => self.sarif = true,
             _ => self.largest = Some(largest(value)?),
         }

@@ -122,6 +122,9 @@ Output:
                              breaks more than once is printed once
   c.pcap: path-size not checked 3 times: ..
                              how often a rule was silent, and why: a capture doesn't show everything
+  c.pcap: 40 packets not opened: ..
+                             why packets were not opened, whose frames no rule sees
+  c.pcap: not read: ..       why a file can't be read, or not to its end
 The last line of a file says what was read of it, and where its connections were captured. Files on the disk are read at
 once, and shown in their order.
 
@@ -133,6 +136,8 @@ options, of which --keylog, --only and --allow may be repeated:
   --only RULE          check only this rule
   --allow RULE=REASON  print what breaks this rule with the reason, and don't count it
   --should             also check rules that are no MUST
+  --opened PERCENT     fail, with status 1, if fewer of a file's packets were opened, or if it has none. Those without
+                       protection don't count, such as a Retry
   --qlog DIR           also write the packets to DIR, as quic-wire capture --qlog does; at the end of each trace, what
                        breaks a rule in that connection
   --rules              print the rules, those of --only or all, and what each needs; read no FILE
@@ -141,6 +146,7 @@ options, of which --keylog, --only and --allow may be repeated:
   --color WHEN         always, never or auto: on a terminal, unless NO_COLOR is set or TERM is dumb; default auto
   -h, --help; -V, --version
 
-Exit status: 0 nothing is found, or only what is allowed or no MUST; 1 a MUST is broken, 2 usage error, 3 reading or
-writing failed, or a file is cut off. If a file can't be read, the others are still read.
+Exit status: 0 nothing is found, or only what is allowed or no MUST; 1 a MUST is broken, or fewer packets were opened
+than --opened says; 2 usage error, 3 reading or writing failed, or a file is cut off. If a file can't be read, the
+others are still read.
 ";

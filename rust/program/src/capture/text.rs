@@ -1,7 +1,7 @@
 //! Lines for people.
 use super::report::{Fault, Form, Packet, Part, Place, Sum, Tally, Whole, is_plain};
 use super::screen::Screen;
-use super::words::{self, Date, Seconds};
+use super::words::{self, Date, Seconds, count, unopened};
 use crate::colour::{Painted, Part as Tone};
 use crate::datagram;
 use crate::frames;
@@ -276,20 +276,5 @@ impl Form for Text<'_> {
             put!(self.lines, "{MARGIN}{line}\n");
         }
         self.write();
-    }
-}
-
-// A number of things.
-fn count(count: u64, what: &str, which: &str) -> String {
-    let (plural, blank) = (if count == 1 { "" } else { "s" }, if which.is_empty() { "" } else { " " });
-    format!("{count} {what}{plural}{blank}{which}")
-}
-
-fn unopened(why: Unopened, n: u64) -> String {
-    match why {
-        Unopened::VersionNegotiation => count(n, "version negotiation", ""),
-        Unopened::Retry => count(n, "Retry packet", ""),
-        Unopened::StatelessReset => count(n, "stateless reset", ""),
-        why => format!("{}: {why}", count(n, "packet", "not opened")),
     }
 }

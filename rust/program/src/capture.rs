@@ -32,9 +32,8 @@ pub fn run(args: &Captures) -> ExitCode {
     let are_read = read_each(&args.files, &queue, |file, place, screen| {
         let mut report = Report::new(Cow::Borrowed(&args.filter), forms(args, screen, &stems[place]));
         let read = read(file, &logs, &mut report, screen);
-        if let Err(what) = &read {
-            screen.say(format_args!("{}: {what}", file.to_string_lossy()));
-        }
+        let said = read.as_ref().err().cloned().or_else(|| report.missing());
+        said.iter().for_each(|what| screen.say(format_args!("{}: {what}", file.to_string_lossy())));
         read.is_ok()
     });
     let are_read = unread.is_empty() && are_read.into_iter().all(|is_read| is_read);

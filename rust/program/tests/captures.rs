@@ -322,10 +322,9 @@ fn filters() {
     let all: Vec<_> = first.into_iter().zip(second).flat_map(|(a, b)| [a, b]).collect();
     let (file, keys) = files(&folder, &[&one, &two], &all);
     // The records and packets that are shown.
-    let rows: [(&[&str], &str); 16] = [
+    let rows: [(&[&str], &str); 15] = [
         (&["--connection", "1", "--side=client"], "2 6 8 12"),
         (&["--connection=0", "--connection=1", "--number", "1"], "11 12 13 14"),
-        (&["--connection", "2"], ""),
         (&["--side", "server", "--frame", "crypto"], "3 3 4 4"),
         (&["--frame", "PING"], "7 8 11 12"),
         (&["--frame", "connection_close"], "13 14"),
@@ -345,6 +344,10 @@ fn filters() {
         let found: Vec<_> = lines.iter().map(|line| line.split(':').next().unwrap()).collect();
         assert_eq!(found.join(" "), records, "{filter:?}");
     }
+    // A connection that isn't there is named.
+    let (text, said, status) = run(&["capture", &file, "--keylog", &keys, "--connection=2", "--connection=1"], b"");
+    let wanted = format!("quic-wire: {file}: there is no connection 2: the file has 0 to 1\n");
+    assert_eq!((said, status, text.contains("\nconnection 1: ")), (wanted, 0, true));
     // Summaries are those of the connections that may be shown, and count what isn't.
     let lines = shown(&[&file, "--keylog", &keys, "--connection", "1", "--frame", "ACK"]);
     let sums: Vec<_> = lines.iter().filter(|line| line.starts_with("connection ")).collect();

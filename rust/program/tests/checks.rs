@@ -81,6 +81,9 @@ fn statuses() {
     assert_eq!(status(&["--at", "home", SMALL]), 2);
     assert_eq!(status(&["--json", "--sarif", SMALL]), 2);
     assert_eq!((status(&["--opened", "101", SMALL]), status(&["--opened", "5%", SMALL])), (2, 2));
+    // That it isn't an option of this mode is said before what is wrong with its value.
+    let (_, said, status) = run(&["check", "--number", "x", SMALL], b"");
+    assert_eq!((said.lines().next(), status), (Some("quic-wire: --number is an option of capture, not of check"), 2));
     let (_, said, status) = run(&["check", "--only", "frame-sendr", SMALL], b"");
     let wanted = "quic-wire: --only: unknown rule \"frame-sendr\"; did you mean frame-sender?; --rules lists them\n";
     assert_eq!((&said[..], status), (wanted, 2));
@@ -105,6 +108,8 @@ fn what_is_allowed_is_not_counted() {
     let wanted = "quic-wire: --allow: unknown rule \"frame-sendr\"; did you mean frame-sender?; --rules lists them\n";
     assert_eq!((&wrong("frame-sendr=why").1[..], wrong("frame-sendr=why").2), (wanted, 2));
     assert_eq!((wrong("frame-sender=").2, wrong("=why").2), (2, 2));
+    let (_, said, status) = call(&["--allow", "frame-sender=why", "--allow", "frame-sender=because"]);
+    assert_eq!((said.lines().next(), status), (Some("quic-wire: --allow: \"frame-sender\" is there twice"), 2));
 }
 
 // With the key log of another connection, and a line that is none, only Initial packets are opened: 2 of 7.

@@ -1,6 +1,7 @@
 //! The arguments of the mode `check`.
 use super::Options;
 use crate::colour::When;
+use std::collections::HashSet;
 use std::ffi::OsString;
 
 #[cfg_attr(not(feature = "capture"), expect(dead_code, reason = "nothing reads captures"))]
@@ -43,6 +44,10 @@ impl Options {
         let Options { json, colours, keylogs, qlog, rules, only, should, at, allowed, opened, sarif, .. } = self;
         if json && sarif {
             return Err("--json and --sarif exclude each other".into());
+        }
+        let mut seen = HashSet::new();
+        if let Some((rule, _)) = allowed.iter().find(|(rule, _)| !seen.insert(rule)) {
+            return Err(format!("--allow: {rule:?} is there twice"));
         }
         Ok(Checks { json, colours, keylogs, qlog, rules, only, should, at, allowed, opened, sarif, files })
     }

@@ -189,11 +189,26 @@ pub struct Report<'a> {
     tallies: HashMap<usize, Tally>,
     /// The number of the first connection that isn't summed up, of those that are still there.
     summed: usize,
+    /// How many connections there were, at the end.
+    connections: usize,
 }
 
 impl<'a> Report<'a> {
     pub fn new(filter: Cow<'a, Filter>, forms: Vec<Box<dyn Form + 'a>>) -> Self {
-        Report { filter, forms, begun: None, parts: Vec::new(), tallies: HashMap::new(), summed: 0 }
+        let (parts, tallies) = (Vec::new(), HashMap::new());
+        Report { filter, forms, begun: None, parts, tallies, summed: 0, connections: 0 }
+    }
+
+    /// What to say at the end of the connections that are to be shown, and that the capture doesn't have.
+    pub fn missing(&self) -> Option<String> {
+        let missing = self.filter.connections.iter().filter(|number| **number >= self.connections);
+        let numbers: Vec<_> = missing.map(ToString::to_string).collect();
+        let all = match self.connections {
+            0 => "has none".into(),
+            1 => "has only 0".into(),
+            count => format!("has 0 to {}", count - 1),
+        };
+        (!numbers.is_empty()).then(|| format!("there is no connection {}: the file {all}", numbers.join(", ")))
     }
 
     /// Says when a datagram was captured, if what is found in it is passed on to this sink.
@@ -295,6 +310,7 @@ impl Taker for Report<'_> {
         follower.connections_from(self.summed).for_each(|connection| self.sum_up(connection));
         self.tallies.clear();
         let (counts, skipped_lines) = (follower.counts(), follower.keylog.skipped());
+        self.connections = counts.connections;
         let whole = Whole { begun: self.begun, capture, counts, skipped_lines };
         self.forms.iter_mut().for_each(|form| form.end(&whole));
     }

@@ -122,9 +122,9 @@ impl Capture {
         self.pieces
     }
 
-    /// Whether bytes are left that are no whole record: at the file's end, it was cut off.
+    /// Whether bytes are left that are no whole record: at the file's end, it was cut off. Not after an error.
     pub fn is_cut(&self) -> bool {
-        self.file.is_cut()
+        self.error.is_none() && self.file.is_cut()
     }
 
     // The datagram of a record, without its bytes.

@@ -46,6 +46,23 @@ const LABELS: [(&[u8], Label); 5] = [
     (b"SERVER_TRAFFIC_SECRET_0", Label::ServerTraffic),
 ];
 
+// The labels of other secrets (draft-ietf-tls-keylogfile, draft-ietf-tls-ech-keylogfile; NSS; Wireshark): they open no
+// packet of QUIC. OpenSSL writes an N for the number of a key update.
+const OTHERS: [&[u8]; 8] = [
+    b"CLIENT_RANDOM",
+    b"RSA",
+    b"PMS_CLIENT_RANDOM",
+    b"EXPORTER_SECRET",
+    b"EARLY_EXPORTER_SECRET",
+    b"EARLY_EXPORTER_MASTER_SECRET",
+    b"ECH_SECRET",
+    b"ECH_CONFIG",
+];
+const UPDATED: [&[u8]; 2] = [b"CLIENT_TRAFFIC_SECRET_", b"SERVER_TRAFFIC_SECRET_"];
+
+// Some editors and shells put it in front of a text.
+const BYTE_ORDER_MARK: &[u8] = b"\xef\xbb\xbf";
+
 // Without bytes it isn't known.
 #[derive(Clone, Copy)]
 struct Secret {
@@ -78,8 +95,9 @@ pub struct KeyLog {
 }
 
 impl KeyLog {
-    /// Takes the lines of a text whose last line is whole, even if no line end follows it. Lines of other secrets and
-    /// comments mean nothing here; lines that can't be read are counted and skipped.
+    /// Takes the lines of a text whose last line is whole, even if no line end follows it. Lines of TLS's other secrets
+    /// and comments mean nothing here; lines that can't be read, and those whose label isn't known, are counted and
+    /// skipped. A byte order mark of UTF-8 is ignored.
     pub fn add(&mut self, text: &[u8]) {
         for line in text.split(|byte| matches!(byte, b'\n' | b'\r')) {
             if !self.line(line) {
@@ -126,7 +144,7 @@ impl KeyLog {
 
     // Takes a line. False if it can't be read.
     fn line(&mut self, line: &[u8]) -> bool {
-        let line = line.trim_ascii();
+        let line = line.strip_prefix(BYTE_ORDER_MARK).unwrap_or(line).trim_ascii();
         if line.is_empty() || line.starts_with(b"#") {
             return true;
         }
@@ -136,7 +154,7 @@ impl KeyLog {
             return false;
         };
         let Some((_, label)) = LABELS.iter().find(|(label, _)| *label == name) else {
-            return [random, secret].iter().all(|digits| digits.iter().all(u8::is_ascii_hexdigit));
+            return is_other(name) && [random, secret].iter().all(|digits| digits.iter().all(u8::is_ascii_hexdigit));
         };
         let mut bytes = [0; 48];
         let (Some(random), Some(len)) = (unhex_all(random), unhex(secret, &mut bytes)) else { return false };
@@ -222,6 +240,12 @@ impl GrowingLog {
     fn is_comment(&self, part: &[u8]) -> bool {
         self.line.first().or(part.first()) == Some(&b'#')
     }
+}
+
+// Whether it is the label of a secret that opens no packet of QUIC.
+fn is_other(name: &[u8]) -> bool {
+    let is_number = |rest: &[u8]| rest == b"N" || !rest.is_empty() && rest.iter().all(u8::is_ascii_digit);
+    OTHERS.contains(&name) || UPDATED.iter().any(|front| name.strip_prefix(*front).is_some_and(is_number))
 }
 
 fn digit(byte: u8) -> Option<u8> {

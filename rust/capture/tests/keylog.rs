@@ -26,6 +26,48 @@ fn lines_that_cannot_be_read_are_counted() {
     assert!(log.knows(&[1; 32]) && !log.knows(&[2; 32]) && !log.is_empty());
 }
 
+// The labels of draft-ietf-tls-keylogfile and draft-ietf-tls-ech-keylogfile, NSS's RSA, and OpenSSL's of key updates.
+#[test]
+fn labels_that_are_not_known_are_counted() {
+    let skipped = |label: &str| {
+        let mut log = KeyLog::default();
+        log.add(line(label, 1, 2, 32).as_bytes());
+        log.skipped()
+    };
+    let known = [
+        "CLIENT_RANDOM",
+        "RSA",
+        "EXPORTER_SECRET",
+        "EARLY_EXPORTER_SECRET",
+        "ECH_SECRET",
+        "ECH_CONFIG",
+        "CLIENT_TRAFFIC_SECRET_1",
+        "SERVER_TRAFFIC_SECRET_N",
+        "CLIENT_EARLY_TRAFFIC_SECRET",
+    ];
+    for label in known {
+        assert_eq!(skipped(label), 0, "{label}");
+    }
+    for label in ["CLIENT_TRAFFIC_SECRET", "CLIENT_TRAFFIC_SECRET_", "client_random", "QUIC_CLIENT_TRAFFIC_SECRET_0"] {
+        assert_eq!(skipped(label), 1, "{label}");
+    }
+}
+
+#[test]
+fn a_byte_order_mark_of_utf_8() {
+    let text = format!("\u{feff}{}\n", line("CLIENT_TRAFFIC_SECRET_0", 1, 2, 32));
+    let (mut log, mut growing, mut grown) = (KeyLog::default(), GrowingLog::default(), KeyLog::default());
+    log.add(text.as_bytes());
+    text.as_bytes().chunks(2).for_each(|piece| growing.add(piece, &mut grown));
+    for log in [log, grown] {
+        assert_eq!((log.secret(&[1; 32], Label::ClientTraffic), log.skipped()), (Some(&[2; 32][..]), 0));
+    }
+    // UTF-16 can't be read.
+    let mut log = KeyLog::default();
+    log.add(&text.encode_utf16().flat_map(u16::to_le_bytes).collect::<Vec<_>>());
+    assert!(log.is_empty() && log.skipped() > 0, "{}", log.skipped());
+}
+
 #[test]
 fn pieces_of_any_size() {
     let text = [

@@ -290,6 +290,9 @@ impl Engine {
                 counts: follower.counts(),
                 rules: self.rules,
                 allowed: &[],
+                skipped_lines: follower.keylog.skipped(),
+                wanted: None,
+                unread: None,
             },
         );
         let rows = rows_of(table.borrow().rows(), &checked.findings);

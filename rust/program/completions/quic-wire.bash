@@ -25,11 +25,13 @@ _quic_wire_words() {
                 capture)
                     echo '--json --color --keylog --qlog --connection --side --number --frame --rejected --lost --help'
                     ;;
-                check) echo '--json --sarif --color --keylog --qlog --at --only --allow --should --rules --help' ;;
+                check)
+                    echo '--json --sarif --color --keylog --qlog --at --only --allow --should --opened --rules --help'
+                    ;;
                 *)
                     echo '--base64 --json --color --rfc --quinn --strict --cid-len --versions --grease --side --largest'
                     echo '--keylog --qlog --connection --number --frame --rejected --lost --at --only --allow --should'
-                    echo '--rules --sarif --help --version'
+                    echo '--opened --rules --sarif --help --version'
                     ;;
             esac
             ;;
@@ -58,7 +60,7 @@ _quic_wire() {
             compopt -o filenames 2>/dev/null
             mapfile -t COMPREPLY < <(compgen -f -- "$current")
             ;;
-        --connection,* | --number,* | --only,* | --allow,*) ;;
+        --connection,* | --number,* | --only,* | --allow,* | --opened,*) ;;
         --side,* | --at,* | --color,* | --cid-len,* | --versions,* | --frame,* | *,-*)
             mapfile -t COMPREPLY < <(compgen -W "$(_quic_wire_words "$mode" "$before")" -- "$current")
             ;;

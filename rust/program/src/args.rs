@@ -8,7 +8,7 @@ use crate::input::Plain;
 pub use capture::{Captures, Filter};
 use capture::{connection, frames, numbers};
 pub use check::{Checks, Place};
-use check::{PLACES, allowance};
+use check::{PLACES, allowance, percent};
 use quic_wire::datagram::HeaderChecks;
 use quic_wire::frame::Rules;
 use quic_wire::packet::DEFAULT_SUPPORTED_VERSIONS;
@@ -97,7 +97,7 @@ const fn known(name: &'static str, value: Option<&'static str>, modes: &'static 
     Known { name, value, modes }
 }
 
-const OPTIONS: [Known; 26] = [
+const OPTIONS: [Known; 27] = [
     known("--help", None, &[]),
     known("--version", None, &[]),
     known("--json", None, &[]),
@@ -123,8 +123,11 @@ const OPTIONS: [Known; 26] = [
     known("--should", None, &["check"]),
     known("--at", Some("client, server or path"), &["check"]),
     known("--allow", Some("a rule and why it may be broken, as RULE=REASON"), &["check"]),
+    known("--opened", Some("how many of a hundred packets must be opened"), &["check"]),
     known("--sarif", None, &["check"]),
 ];
+
+const NO_LOG: &str = "--keylog: a key log isn't read from standard input; ./- is a file of this name";
 
 const WHEN: [(&str, When); 3] = [("always", When::Always), ("never", When::Never), ("auto", When::Auto)];
 const SIDES: [(&str, Side); 2] = [("client", Side::Client), ("server", Side::Server)];
@@ -151,9 +154,12 @@ struct Options {
     should: bool,
     at: Option<Place>,
     allowed: Vec<(String, String)>,
+    opened: Option<u8>,
     sarif: bool,
     // Those that not all modes accept.
     of_modes: Vec<&'static Known>,
+    // What is wrong with the first value that is: that its option isn't one of the mode comes before.
+    wrong: Option<String>,
 }
 
 pub fn parse(words: impl Iterator<Item = OsString>) -> Result<Call, String> {
@@ -212,6 +218,19 @@ impl Options {
         if !option.modes.is_empty() {
             self.of_modes.push(option);
         }
+        if let Err(what) = self.take_value(option, given, rest) {
+            self.wrong.get_or_insert(what);
+        }
+        Ok(())
+    }
+
+    fn take_value(
+        &mut self,
+        option: &Known,
+        given: Option<OsString>,
+        rest: &mut impl Iterator<Item = OsString>,
+    ) -> Result<(), String> {
+        let name = option.name;
         let value = match (option.value, given) {
             (None, Some(_)) => return Err(format!("{name} takes no value")),
             (None, None) => OsString::new(),
@@ -219,6 +238,7 @@ impl Options {
             (Some(what), None) => rest.next().ok_or_else(|| format!("{name} needs a value: {what}"))?,
         };
         match (name, value.to_str()) {
+            ("--keylog", Some("-")) => return Err(NO_LOG.into()),
             ("--keylog", _) => self.keylogs.push(value),
             ("--qlog", _) => self.qlog = Some(value),
             (_, Some(value)) => self.set(option, value)?,
@@ -249,17 +269,19 @@ impl Options {
             "--should" => self.should = true,
             "--at" => self.at = Some(choice(option, value, &PLACES)?),
             "--allow" => self.allowed.push(allowance(value)?),
+            "--opened" => self.opened = Some(percent(value)?),
             "--sarif" => self.sarif = true,
             _ => self.largest = Some(largest(value)?),
         }
         Ok(())
     }
 
-    // Whether a mode accepts all of them.
+    // Whether a mode accepts all of them, and their values are right.
     fn check_for(&self, mode: &str) -> Result<(), String> {
         let other = self.of_modes.iter().find(|option| !option.modes.contains(&mode));
         match other.filter(|_| MODES.contains(&mode)) {
             Some(other) => Err(format!("{} is an option of {}, not of {mode}", other.name, other.modes.join(", "))),
+            None if MODES.contains(&mode) => self.wrong.clone().map_or(Ok(()), Err),
             None => Ok(()),
         }
     }

@@ -27,17 +27,16 @@ use text::Text;
 /// Shows captures.
 pub fn run(args: &Captures) -> ExitCode {
     let queue = Arc::new(Queue::default());
-    let (logs, are_opened) = KeyLogs::open(&args.keylogs);
+    let (logs, unread) = KeyLogs::open(&args.keylogs);
     let stems = qlog::stems(&args.files);
     let are_read = read_each(&args.files, &queue, |file, place, screen| {
         let mut report = Report::new(Cow::Borrowed(&args.filter), forms(args, screen, &stems[place]));
         let read = read(file, &logs, &mut report, screen);
-        if let Err(what) = &read {
-            screen.say(format_args!("{}: {what}", file.to_string_lossy()));
-        }
+        let said = read.as_ref().err().cloned().or_else(|| report.missing());
+        said.iter().for_each(|what| screen.say(format_args!("{}: {what}", file.to_string_lossy())));
         read.is_ok()
     });
-    let are_read = are_opened && are_read.into_iter().all(|is_read| is_read);
+    let are_read = unread.is_empty() && are_read.into_iter().all(|is_read| is_read);
     ended(&queue, if are_read { ExitCode::SUCCESS } else { ExitCode::from(FAILED) })
 }
 

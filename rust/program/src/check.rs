@@ -9,11 +9,14 @@ use crate::capture::ended;
 use crate::capture::keys::KeyLogs;
 use crate::capture::qlog::stems;
 use crate::capture::reading::{Taker, read, read_each};
+use crate::capture::report::is_protected;
 use crate::capture::screen::{Queue, Screen};
+use crate::capture::words;
 use crate::{FAILED, REFUSED, WRONG_CALL, say};
 use json::Json;
 use quic_wire_capture::capture::{Capture, Datagram};
 use quic_wire_capture::follow::{Counts, Follower};
+use quic_wire_capture::sink::Unopened;
 use quic_wire_check::checker::Checker;
 use quic_wire_check::finding::{Finding, Report};
 use quic_wire_check::rule::{Level, Rule};
@@ -37,6 +40,12 @@ pub struct Whole<'a> {
     pub rules: usize,
     /// The names of rules that may be broken, and why.
     pub allowed: &'a [(String, String)],
+    /// How many lines of key logs were skipped.
+    pub skipped_lines: u64,
+    /// How many of a hundred packets with protection must be opened.
+    pub wanted: Option<u8>,
+    /// Why it can't be read, or not to its end.
+    pub unread: Option<&'a str>,
 }
 
 /// How what is found is written.
@@ -50,12 +59,14 @@ struct Check<'a> {
     rules: &'a [&'static Rule],
     allowed: &'a [(String, String)],
     vantage: Option<Vantage>,
+    wanted: Option<u8>,
     form: Box<dyn Form + 'a>,
     name: &'a OsStr,
     begun: Option<u64>,
     checker: Checker,
     traces: Option<Traces<'a>>,
-    is_broken: bool,
+    unread: Option<String>,
+    has_failed: bool,
 }
 
 impl Whole<'_> {
@@ -83,9 +94,63 @@ impl Whole<'_> {
         self.report.further.values().sum()
     }
 
+    // The packets with protection that weren't opened, by the reason.
+    fn unopened(&self) -> impl Iterator<Item = (Unopened, u64)> {
+        self.counts.unopened.iter().filter(|(why, _)| is_protected(**why)).map(|(why, count)| (*why, *count))
+    }
+
+    // How many of them there are.
+    fn shut(&self) -> u64 {
+        self.unopened().map(|(_, count)| count).sum()
+    }
+
+    // Whether as many were opened as must be, if that was said. Of none, none is.
+    fn has_enough(&self) -> Option<bool> {
+        let (opened, all) = (u128::from(self.counts.opened), u128::from(self.counts.opened + self.shut()));
+        self.wanted.map(|wanted| wanted == 0 || opened > 0 && 100 * opened >= u128::from(wanted) * all)
+    }
+
+    // What is said if they weren't.
+    fn lack(&self) -> Option<String> {
+        let is_read = self.unread.is_none() || self.capture.records() > 0;
+        let wanted = self.wanted.filter(|_| is_read && self.has_enough() == Some(false))?;
+        let all = words::count(self.counts.opened + self.shut(), "packet", "opened");
+        Some(format!("{} of {all}, fewer than {wanted} %", self.counts.opened))
+    }
+
+    // What wasn't read, and why.
+    fn gap(&self) -> Option<String> {
+        let what = if self.capture.records() == 0 { "not read" } else { "not read to its end" };
+        self.unread.map(|why| format!("{what}: {why}"))
+    }
+
     // How many rules are broken that may be.
     fn allowed(&self) -> u64 {
         self.report.findings.iter().filter(|finding| self.reason(finding).is_some()).count() as u64
+    }
+}
+
+impl<'a> Check<'a> {
+    fn new(
+        args: &'a Checks,
+        rules: &'a [&'static Rule],
+        name: &'a OsStr,
+        form: Box<dyn Form + 'a>,
+        traces: Option<Traces<'a>>,
+    ) -> Self {
+        Check {
+            rules,
+            allowed: &args.allowed,
+            vantage: args.at.map(vantage),
+            wanted: args.opened,
+            form,
+            name,
+            begun: None,
+            checker: Checker::new([]),
+            traces,
+            unread: None,
+            has_failed: false,
+        }
     }
 }
 
@@ -106,41 +171,44 @@ pub fn run(args: &Checks) -> ExitCode {
     };
     let (queue, log) = (Arc::new(Queue::default()), Log::new(&rules));
     if args.rules {
-        let screen = Screen::new(&queue, 0);
-        let mut form = form(args, 0, &log, &screen);
-        rules.iter().for_each(|rule| form.rule(rule));
-        drop(form);
-        if args.sarif {
-            screen.write(&log.text(true));
-        }
-        drop(screen);
-        return ended(&queue, ExitCode::SUCCESS);
+        return table(args, &rules, &log, &queue);
     }
-    let (logs, are_opened) = KeyLogs::open(&args.keylogs);
+    let (logs, unread) = KeyLogs::open(&args.keylogs);
     let (filter, stems) = (Filter::default(), stems(&args.files));
     let results = read_each(&args.files, &queue, |file, place, screen| {
-        let (form, allowed, vantage) = (form(args, place, &log, screen), &args.allowed[..], args.at.map(vantage));
-        let (begun, checker, is_broken) = (None, Checker::new([]), false);
         let folder = args.qlog.as_deref();
-        let traces = folder.map(|folder| Traces::new(&filter, screen, folder, &stems[place], allowed));
-        let mut check = Check { rules: &rules, allowed, vantage, form, name: file, begun, checker, traces, is_broken };
+        let traces = folder.map(|folder| Traces::new(&filter, screen, folder, &stems[place], &args.allowed));
+        let mut check = Check::new(args, &rules, file, form(args, place, &log, screen), traces);
         let read = read(file, &logs, &mut check, screen);
         if let Err(what) = &read {
             screen.say(format_args!("{}: {what}", file.to_string_lossy()));
         }
-        (read.is_ok(), check.is_broken)
+        (read.is_ok(), check.has_failed)
     });
-    let are_read = are_opened && results.iter().all(|(is_read, _)| *is_read);
-    let is_broken = results.iter().any(|(_, is_broken)| *is_broken);
+    let are_read = unread.is_empty() && results.iter().all(|(is_read, _)| *is_read);
+    let has_failed = results.iter().any(|(_, has_failed)| *has_failed);
     if args.sarif {
-        Screen::new(&queue, args.files.len()).write(&log.text(are_read));
+        Screen::new(&queue, args.files.len()).write(&log.text(are_read, &unread));
     }
-    let code = match (are_read, is_broken) {
+    let code = match (are_read, has_failed) {
         (false, _) => FAILED,
         (true, true) => REFUSED,
         (true, false) => 0,
     };
     ended(&queue, ExitCode::from(code))
+}
+
+// Prints the table of rules.
+fn table(args: &Checks, rules: &[&'static Rule], log: &Log<'_>, queue: &Arc<Queue>) -> ExitCode {
+    let screen = Screen::new(queue, 0);
+    let mut form = form(args, 0, log, &screen);
+    rules.iter().for_each(|rule| form.rule(rule));
+    drop(form);
+    if args.sarif {
+        screen.write(&log.text(true, &[]));
+    }
+    drop(screen);
+    ended(queue, ExitCode::SUCCESS)
 }
 
 // How what is found in the capture at a place is written.
@@ -196,6 +264,15 @@ impl Taker for Check<'_> {
         }
     }
 
+    fn failed(&mut self, why: &str) {
+        self.unread = Some(why.into());
+    }
+
+    fn unread(&mut self, why: &str) {
+        self.failed(why);
+        self.end(&mut Follower::default(), &Capture::default());
+    }
+
     fn end(&mut self, follower: &mut Follower, capture: &Capture) {
         if let Some(traces) = &mut self.traces {
             traces.finish(follower, &mut self.checker);
@@ -204,9 +281,18 @@ impl Taker for Check<'_> {
         if let Some(traces) = &mut self.traces {
             traces.end(follower, capture, &report);
         }
-        let (begun, counts, rules) = (self.begun.unwrap_or_default(), follower.counts(), self.rules.len());
-        let whole = Whole { begun, report: &report, capture, counts, rules, allowed: self.allowed };
-        self.is_broken |= whole.is_broken();
+        let whole = Whole {
+            begun: self.begun.unwrap_or_default(),
+            report: &report,
+            capture,
+            counts: follower.counts(),
+            rules: self.rules.len(),
+            allowed: self.allowed,
+            skipped_lines: follower.keylog.skipped(),
+            wanted: self.wanted,
+            unread: self.unread.as_deref(),
+        };
+        self.has_failed |= whole.is_broken() || whole.has_enough() == Some(false);
         self.form.capture(self.name, &whole);
     }
 }
@@ -223,8 +309,9 @@ mod tests {
         let allowed = [("path-size".into(), "known".into())];
         let is_broken = |rule: &'static str| {
             let report = Report { further: BTreeMap::from([(rule, 1)]), ..Report::default() };
-            let (begun, rules, allowed) = (0, 1, &allowed[..]);
-            Whole { begun, report: &report, capture: &capture, counts: &counts, rules, allowed }.is_broken()
+            let (begun, rules, allowed, skipped_lines, wanted, unread) = (0, 1, &allowed[..], 0, None, None);
+            let (report, capture, counts) = (&report, &capture, &counts);
+            Whole { begun, report, capture, counts, rules, allowed, skipped_lines, wanted, unread }.is_broken()
         };
         assert!(is_broken("final-size"));
         assert!(!is_broken("path-size"), "it may be broken");

@@ -87,8 +87,8 @@ With more than one FILE, each line of a packet or summary begins with its name. 
 all processors, and shown in their order.
 
 options, of which --keylog, --connection, --number and --frame may be repeated:
-  --keylog FILE        read secrets from a key log, such as the file that SSLKEYLOGFILE names. If a capture comes from
-                       standard input, lines that are added meanwhile are read too
+  --keylog FILE        read secrets from a key log, such as the file that SSLKEYLOGFILE names, but not from standard
+                       input. If a capture comes from there, lines that are added meanwhile are read too
   --connection N       show only connection N, 0 being the first of a file
   --side client|server show only what this side sent
   --number N           show only packets with this number or, for 1-3 or 1..4, those with numbers 1 to 3
@@ -122,17 +122,23 @@ Output:
                              breaks more than once is printed once
   c.pcap: path-size not checked 3 times: ..
                              how often a rule was silent, and why: a capture doesn't show everything
+  c.pcap: 40 packets not opened: ..
+                             why packets were not opened, whose frames no rule sees
+  c.pcap: not read: ..       why a file can't be read, or not to its end
 The last line of a file says what was read of it, and where its connections were captured. Files on the disk are read at
 once, and shown in their order.
 
 options, of which --keylog, --only and --allow may be repeated:
-  --keylog FILE        read secrets from a key log, such as the file that SSLKEYLOGFILE names
+  --keylog FILE        read secrets from a key log, such as the file that SSLKEYLOGFILE names, but not from standard
+                       input
   --at WHERE           the captures were taken at the client, at the server, or on the path between them: WHERE is
                        client, server or path. By default the records of each connection may say so; else it is path.
                        At its sender's host, the order of packets shows more
   --only RULE          check only this rule
-  --allow RULE=REASON  print what breaks this rule with the reason, and don't count it
+  --allow RULE=REASON  print what breaks this rule with the reason, and don't count it; once for each rule
   --should             also check rules that are no MUST
+  --opened PERCENT     fail, with status 1, if fewer of a file's packets were opened, or if it has none. Those without
+                       protection don't count, such as a Retry
   --qlog DIR           also write the packets to DIR, as quic-wire capture --qlog does; at the end of each trace, what
                        breaks a rule in that connection
   --rules              print the rules, those of --only or all, and what each needs; read no FILE
@@ -141,6 +147,7 @@ options, of which --keylog, --only and --allow may be repeated:
   --color WHEN         always, never or auto: on a terminal, unless NO_COLOR is set or TERM is dumb; default auto
   -h, --help; -V, --version
 
-Exit status: 0 nothing is found, or only what is allowed or no MUST; 1 a MUST is broken, 2 usage error, 3 reading or
-writing failed, or a file is cut off. If a file can't be read, the others are still read.
+Exit status: 0 nothing is found, or only what is allowed or no MUST; 1 a MUST is broken, or fewer packets were opened
+than --opened says; 2 usage error, 3 reading or writing failed, or a file is cut off. If a file can't be read, the
+others are still read.
 ";

@@ -224,6 +224,26 @@ fn how_connections_end() {
     assert_eq!(ends, all);
 }
 
+// Only a packet of the same side shows that an unopened one didn't end the connection, and a close that was opened does.
+#[test]
+fn ends_after_packets_that_are_not_opened() {
+    let folder = Folder::new("shut");
+    let end = |closes: bool, goes_on: bool| {
+        let mut made = Made::new(1);
+        let mut all = made.handshake();
+        let mut wrong = made.send(Server, Short, PING);
+        *wrong.bytes.last_mut().unwrap() ^= 1;
+        all.extend([made.send(Server, Short, PING), wrong, made.send(Client, Short, PING)]);
+        all.extend(goes_on.then(|| made.send(Server, Short, PING)));
+        all.extend(closes.then(|| made.send(Client, Short, b"\x1c\x00\x00\x00")));
+        let (file, keys) = files(&folder, &[&made], &all);
+        shown(&[&file, "--keylog", &keys]).into_iter().find(|line| line.starts_with("    end: ")).unwrap()
+    };
+    assert_eq!(end(false, false), "    end: not known: its last packets weren't opened");
+    assert_eq!(end(false, true), "    end: it was open at the end of the capture");
+    assert_eq!(end(true, false), "    end: the client closed it with NO_ERROR");
+}
+
 #[test]
 fn what_is_not_opened_is_counted_by_its_reason() {
     let lines = shown(&[SMALL]);
@@ -239,6 +259,9 @@ fn what_is_not_opened_is_counted_by_its_reason() {
         tail[2],
         "    server 127.0.0.1:21001: 1 packet opened; 6 packets not opened: the key log has no secret for it"
     );
+    // What wasn't opened is a part of the connection, and may have ended it.
+    assert!(tail[0].contains(", 0.000000 to 0.027264 first_dst="), "{}", tail[0]);
+    assert_eq!(tail[3], "    end: not known: its last packets weren't opened");
     assert!(tail[4].ends_with(" 13 datagrams, 1 connection, 2 packets opened"));
     assert_eq!(tail[5], "    14 packets not opened: the key log has no secret for it");
 }
@@ -299,10 +322,9 @@ fn filters() {
     let all: Vec<_> = first.into_iter().zip(second).flat_map(|(a, b)| [a, b]).collect();
     let (file, keys) = files(&folder, &[&one, &two], &all);
     // The records and packets that are shown.
-    let rows: [(&[&str], &str); 16] = [
+    let rows: [(&[&str], &str); 15] = [
         (&["--connection", "1", "--side=client"], "2 6 8 12"),
         (&["--connection=0", "--connection=1", "--number", "1"], "11 12 13 14"),
-        (&["--connection", "2"], ""),
         (&["--side", "server", "--frame", "crypto"], "3 3 4 4"),
         (&["--frame", "PING"], "7 8 11 12"),
         (&["--frame", "connection_close"], "13 14"),
@@ -322,6 +344,10 @@ fn filters() {
         let found: Vec<_> = lines.iter().map(|line| line.split(':').next().unwrap()).collect();
         assert_eq!(found.join(" "), records, "{filter:?}");
     }
+    // A connection that isn't there is named.
+    let (text, said, status) = run(&["capture", &file, "--keylog", &keys, "--connection=2", "--connection=1"], b"");
+    let wanted = format!("quic-wire: {file}: there is no connection 2: the file has 0 to 1\n");
+    assert_eq!((said, status, text.contains("\nconnection 1: ")), (wanted, 0, true));
     // Summaries are those of the connections that may be shown, and count what isn't.
     let lines = shown(&[&file, "--keylog", &keys, "--connection", "1", "--frame", "ACK"]);
     let sums: Vec<_> = lines.iter().filter(|line| line.starts_with("connection ")).collect();

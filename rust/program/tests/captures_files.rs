@@ -141,7 +141,7 @@ fn files_that_cannot_be_read() {
 
 #[test]
 fn wrong_calls() {
-    let rows: [(&[&str], &str); 14] = [
+    let rows: [(&[&str], &str); 15] = [
         (&["--connection", "x"], "--connection: expected a number, 0 for the first connection, not \"x\""),
         (&["--connection", "-1"], "--connection: expected a number, 0 for the first connection, not \"-1\""),
         (&["--number", "3-1"], "--number: expected a packet number, a range as 1-3 or 1..4, not \"3-1\""),
@@ -149,6 +149,7 @@ fn wrong_calls() {
         (&["--frame", "ACKS"], "--frame: unknown frame \"ACKS\"; did you mean ACK?"),
         (&["--frame"], "--frame needs a value: the name of a frame"),
         (&["--keylog"], "--keylog needs a value: a key log file"),
+        (&["--keylog=-"], "--keylog: a key log isn't read from standard input; ./- is a file of this name"),
         (&["--qlog"], "--qlog needs a value: a folder"),
         (&["--rejected=1"], "--rejected takes no value"),
         (&["--base64"], "--base64 is an option of frames, canon, datagram, params, number, ranges, not of capture"),

@@ -200,6 +200,19 @@ fn all_objects_fit_the_schema_and_have_what_it_names() {
     assert!(reasons.iter().map(Json::text).eq(all.iter().map(ToString::to_string)));
 }
 
+#[test]
+fn a_connection_whose_last_packets_are_not_opened() {
+    let connection = |arguments: &[&str]| {
+        let all = objects(arguments);
+        all.into_iter().find(|object| object.at("kind").text() == "connection").unwrap()
+    };
+    let (opened, shut) = (connection(&[SMALL, "--keylog", SMALL_KEYS]), connection(&[SMALL]));
+    assert_eq!((opened.at("how").text(), shut.at("how").text()), ("closed", "unknown"));
+    for time in ["begin", "last"] {
+        assert_eq!(opened.at(time), shut.at(time), "{time}");
+    }
+}
+
 // RFC 9001, appendices A.2 and A.3: the places of the packet number and the payload.
 #[test]
 fn places_are_those_of_the_rfc() {

@@ -80,6 +80,10 @@ fn statuses() {
     assert_eq!(status(&["--qlog", &file, SMALL]), 3);
     assert_eq!(status(&["--at", "home", SMALL]), 2);
     assert_eq!(status(&["--json", "--sarif", SMALL]), 2);
+    assert_eq!((status(&["--opened", "101", SMALL]), status(&["--opened", "5%", SMALL])), (2, 2));
+    // That it isn't an option of this mode is said before what is wrong with its value.
+    let (_, said, status) = run(&["check", "--number", "x", SMALL], b"");
+    assert_eq!((said.lines().next(), status), (Some("quic-wire: --number is an option of capture, not of check"), 2));
     let (_, said, status) = run(&["check", "--only", "frame-sendr", SMALL], b"");
     let wanted = "quic-wire: --only: unknown rule \"frame-sendr\"; did you mean frame-sender?; --rules lists them\n";
     assert_eq!((&said[..], status), (wanted, 2));
@@ -104,6 +108,96 @@ fn what_is_allowed_is_not_counted() {
     let wanted = "quic-wire: --allow: unknown rule \"frame-sendr\"; did you mean frame-sender?; --rules lists them\n";
     assert_eq!((&wrong("frame-sendr=why").1[..], wrong("frame-sendr=why").2), (wanted, 2));
     assert_eq!((wrong("frame-sender=").2, wrong("=why").2), (2, 2));
+    let (_, said, status) = call(&["--allow", "frame-sender=why", "--allow", "frame-sender=because"]);
+    assert_eq!((said.lines().next(), status), (Some("quic-wire: --allow: \"frame-sender\" is there twice"), 2));
+}
+
+// With the key log of another connection, and a line that is none, only Initial packets are opened: 2 of 7.
+#[test]
+fn why_packets_are_not_opened() {
+    let folder = Folder::new("check-shut");
+    let (file, _) = files(&folder);
+    let other = folder.write("other", Made::new(2).key_log() + "not a line\n");
+    let (text, said, status) = run(&["check", "--keylog", &other, &file], b"");
+    let lines = format!(
+        "{file}: 5 packets not opened: the key log has no secret for it\n{file}: 1 line of key logs skipped\n{file}: 6 \
+         records, 1 connection on the path, 2 packets opened, 5 not opened, "
+    );
+    assert!(text.contains(&lines), "{text}");
+    assert_eq!((&said[..], status), ("", 1));
+    let all = objects(&["--keylog", &other, &file]);
+    let end = all.last().unwrap();
+    assert_eq!((number(end, "opened"), number(end, "unopened"), number(end, "skipped_lines")), (2, 5, 1));
+    let [reason] = end.at("unopened_reasons").items() else { panic!("{end:?}") };
+    assert_eq!((reason.at("reason").text(), number(reason, "count")), ("the key log has no secret for it", 5));
+    let log = sarif(&["--keylog", &other, &file]);
+    is_sarif(&log);
+    for what in ["5 packets not opened: the key log has no secret for it", "1 line of key logs skipped"] {
+        assert!(notes(&log).contains(&what), "{what}: {:?}", notes(&log));
+    }
+}
+
+// Without a key log 2 of 16 packets are opened, 12.5 %.
+#[test]
+fn a_share_of_the_packets_must_be_opened() {
+    let folder = Folder::new("check-opened");
+    let none = folder.write("none.pcap", pcap(&[]));
+    let status = |arguments: &[&str]| run(&[&["check", "--opened"], arguments].concat(), b"").2;
+    assert_eq!(status(&["100", "--keylog", SMALL_KEYS, SMALL]), 0);
+    assert_eq!((status(&["12", SMALL]), status(&["13", SMALL])), (0, 1));
+    assert_eq!((status(&["0", &none]), status(&["1", &none])), (0, 1), "no packet");
+    assert_eq!(status(&["13", SMALL, "no such file"]), 3);
+    let (text, ..) = run(&["check", "--opened", "13", SMALL], b"");
+    assert!(text.contains(&format!("{SMALL}: 2 of 16 packets opened, fewer than 13 %\n")), "{text}");
+    let enough = |most: &str| objects(&["--opened", most, SMALL]).last().unwrap().get("enough_opened").cloned();
+    assert_eq!((enough("12"), enough("13")), (Some(Json::Flag(true)), Some(Json::Flag(false))));
+    let log = sarif(&["--opened", "13", SMALL]);
+    assert!(notes(&log).contains(&"2 of 16 packets opened, fewer than 13 %"), "{:?}", notes(&log));
+}
+
+// Recorded ones with a Retry, a stateless reset and a version negotiation, which have no protection.
+#[test]
+fn packets_that_cannot_be_opened_do_not_count() {
+    for name in ["quinn-retry", "aioquic-nginx-reset", "ngtcp2-negotiation"] {
+        let [file, keys] = ["pcap", "keys"].map(|kind| format!("../../vectors/captures/{name}.{kind}"));
+        let (text, _, status) = run(&["check", "--opened", "100", "--keylog", &keys, &file], b"");
+        assert!(text.contains(" packets opened, 0 not opened, "), "{name}: {text}");
+        assert_eq!(status, 0, "{name}: {text}");
+    }
+}
+
+// What wasn't read isn't clean: the summary is left out, or says what is lacking, in each form.
+#[test]
+fn files_that_cannot_be_read() {
+    let folder = Folder::new("check-unread");
+    let small = fs::read(SMALL).unwrap();
+    let (none, cut) = (folder.path("none"), folder.write("cut.pcap", &small[..small.len() - 5]));
+    let rows = [
+        (folder.write("text", "this is text"), "not read: the file is neither pcap nor pcapng", false),
+        (folder.write("empty", ""), "not read: the file is empty", false),
+        (folder.path(""), "not read: Is a directory", false),
+        (none, "not read: No such file or directory", false),
+        (cut, "not read to its end: cut off after record 12", true),
+    ];
+    let mut schema = Schema::read(SCHEMA);
+    for (file, what, is_cut) in rows {
+        let call = |form: &[&str]| run(&[&["check"], form, &["--opened", "1", &file]].concat(), b"");
+        let (text, said, status) = call(&[]);
+        let (_, reason) = what.split_once(": ").unwrap();
+        assert!(text.lines().any(|line| line.starts_with(&format!("{file}: {what}"))), "{what}: {text}");
+        assert_eq!((text.contains("nothing found"), text.contains("fewer than"), status), (is_cut, false, 3), "{text}");
+        assert!(said.starts_with(&format!("quic-wire: {file}: {reason}")), "{what}: {said}");
+        let (text, ..) = call(&["--json"]);
+        let end = Json::read(text.lines().last().unwrap());
+        schema.check(&end);
+        assert!(end.at("unread").text().starts_with(reason), "{what}: {end:?}");
+        assert_eq!(end.at("cut_off"), &Json::Flag(is_cut), "{what}");
+        let log = Json::read(&call(&["--sarif"]).0);
+        is_sarif(&log);
+        assert!(notes(&log).iter().any(|note| note.starts_with(what)), "{what}: {:?}", notes(&log));
+    }
+    let log = Json::read(&run(&["check", "--sarif", "--keylog", &folder.path("none"), SMALL], b"").0);
+    assert!(notes(&log).iter().any(|note| note.starts_with("key log not read: ")), "{:?}", notes(&log));
 }
 
 #[test]
@@ -137,9 +231,10 @@ fn all_objects_fit_the_schema_and_have_what_it_names() {
     let mut schema = Schema::read(SCHEMA);
     let allowed = ["--allow", "frame-sender=why", "--keylog", &keys, &file];
     let calls = [&["--rules"][..], &["--keylog", &keys, &file, SMALL], &["--should", "--keylog", SMALL_KEYS, SMALL]];
-    for call in calls.into_iter().chain([&allowed[..]]) {
+    for call in calls.into_iter().chain([&allowed[..], &["--opened", "50", SMALL]]) {
         objects(call).iter().for_each(|object| schema.check(object));
     }
+    schema.check(&Json::read(&run(&["check", "--json", "no such file"], b"").0));
     let (all, seen) = (schema.members(), &schema.seen);
     assert_eq!(all.difference(seen).collect::<Vec<_>>(), Vec::<&String>::new());
 
@@ -268,9 +363,17 @@ fn is_sarif(log: &Json) {
     let [invocation] = log.at("runs.0.invocations").items() else { panic!("no invocation") };
     assert!(matches!(invocation.at("executionSuccessful"), Json::Flag(_)));
     for notification in invocation.at("toolExecutionNotifications").items() {
-        assert!(rules.contains(&notification.at("associatedRule.id").text()), "{notification:?}");
+        let rule = notification.get("associatedRule").map(|rule| rule.at("id").text());
+        assert!(rule.is_none_or(|rule| rules.contains(&rule)), "{notification:?}");
+        assert!(is_one_of(notification.at("level"), &["error", "warning", "note"]), "{notification:?}");
         assert!(!notification.at("message.text").text().is_empty(), "{notification:?}");
     }
+}
+
+// What an object says of what wasn't checked.
+fn notes(log: &Json) -> Vec<&str> {
+    let notes = log.at("runs.0.invocations.0.toolExecutionNotifications").items();
+    notes.iter().map(|note| note.at("message.text").text()).collect()
 }
 
 fn number(object: &Json, path: &str) -> u64 {
@@ -296,7 +399,9 @@ fn an_object_of_sarif() {
     let at = "locations.0.logicalLocations.0.fullyQualifiedName";
     assert_eq!(sender.at(at).text(), "connection 0/client/1-RTT 0");
     let silent = log.at("runs.0.invocations.0.toolExecutionNotifications").items();
-    assert!(silent.iter().any(|one| one.at("associatedRule.id").text() == "path-size"), "{silent:?}");
+    let path_size = silent.iter().find(|one| one.get("associatedRule") == Some(&Json::read(r#"{"id":"path-size"}"#)));
+    let once = path_size.unwrap().at("message.text").text();
+    assert!(once.starts_with("not checked 1 time: "), "{once}");
 
     let table = sarif(&["--rules"]);
     is_sarif(&table);

@@ -1,6 +1,7 @@
 //! The arguments of the mode `check`.
 use super::Options;
 use crate::colour::When;
+use std::collections::HashSet;
 use std::ffi::OsString;
 
 #[cfg_attr(not(feature = "capture"), expect(dead_code, reason = "nothing reads captures"))]
@@ -20,6 +21,8 @@ pub struct Checks {
     pub at: Option<Place>,
     /// The names of rules that may be broken, and why.
     pub allowed: Vec<(String, String)>,
+    /// How many of a hundred packets must be opened.
+    pub opened: Option<u8>,
     pub sarif: bool,
     pub files: Vec<OsString>,
 }
@@ -38,12 +41,23 @@ pub(super) const PLACES: [(&str, Place); 3] =
 impl Options {
     pub(super) fn check(self, files: Vec<OsString>) -> Result<Checks, String> {
         self.check_for("check")?;
-        let Options { json, colours, keylogs, qlog, rules, only, should, at, allowed, sarif, .. } = self;
+        let Options { json, colours, keylogs, qlog, rules, only, should, at, allowed, opened, sarif, .. } = self;
         if json && sarif {
             return Err("--json and --sarif exclude each other".into());
         }
-        Ok(Checks { json, colours, keylogs, qlog, rules, only, should, at, allowed, sarif, files })
+        let mut seen = HashSet::new();
+        if let Some((rule, _)) = allowed.iter().find(|(rule, _)| !seen.insert(rule)) {
+            return Err(format!("--allow: {rule:?} is there twice"));
+        }
+        Ok(Checks { json, colours, keylogs, qlog, rules, only, should, at, allowed, opened, sarif, files })
     }
+}
+
+/// How many of a hundred.
+pub(super) fn percent(text: &str) -> Result<u8, String> {
+    let is_plain = text.len() <= 3 && text.bytes().all(|byte| byte.is_ascii_digit());
+    let percent = text.parse().ok().filter(|percent| is_plain && *percent <= 100);
+    percent.ok_or_else(|| format!("--opened: expected a number from 0 to 100, not {text:?}"))
 }
 
 /// A rule, and why it may be broken.

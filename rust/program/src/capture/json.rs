@@ -183,6 +183,7 @@ fn how(sum: &Sum<'_>) -> &'static str {
         _ if sum.tally.reset.is_some() => "reset",
         Some(Ended::Closed) => "closed",
         Some(Ended::Reset) => "reset",
+        Some(Ended::Silent) | None if sum.ends_shut() => "unknown",
         Some(Ended::Silent) => "silent",
         Some(Ended::Crowded) => "crowded",
         None => "open",
@@ -256,7 +257,7 @@ impl<L: Lines> Form for Json<L> {
             for (what, name) in [("server_name", connection.server_name()), ("protocol", connection.protocol())] {
                 name.into_iter().for_each(|name| object.field(&(what, Value::Text(name))));
             }
-            let (first, last) = connection.times();
+            let (first, last) = sum.times();
             for (name, time) in [("begin", first), ("last", last)] {
                 object.plain(name, format_args!("{:#}", Seconds(words::after(sum.begun, time))));
             }

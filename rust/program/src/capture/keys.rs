@@ -28,19 +28,17 @@ struct Tail {
 }
 
 impl KeyLogs {
-    /// Opens the files. Also returns whether all can be read; it says which can't.
-    pub fn open(files: &[OsString]) -> (KeyLogs, bool) {
-        let (mut logs, mut are_read) = (Vec::new(), true);
+    /// Opens the files. Also returns which can't be read, and why; it says so.
+    pub fn open(files: &[OsString]) -> (KeyLogs, Vec<String>) {
+        let (mut logs, mut unread) = (Vec::new(), Vec::new());
         for file in files {
             match Log::open(file) {
                 Ok(log) => logs.push(log),
-                Err(error) => {
-                    are_read = false;
-                    say(format_args!("{}: {error}", file.to_string_lossy()));
-                }
+                Err(error) => unread.push(format!("{}: {error}", file.to_string_lossy())),
             }
         }
-        (KeyLogs(logs), are_read)
+        unread.iter().for_each(say);
+        (KeyLogs(logs), unread)
     }
 
     /// Adds their lines to the secrets of a capture. If they may grow, their last lines needn't be whole.

@@ -19,6 +19,14 @@ pub trait Taker {
     /// A capture begins.
     fn begin(&mut self, file: &OsStr);
     fn datagram(&mut self, datagram: &Datagram<'_>, follower: &mut Follower);
+    /// The capture can't be read on, for a reason. Its end comes next.
+    fn failed(&mut self, why: &str) {
+        let _ = why;
+    }
+    /// It can't be opened, for a reason. Nothing else comes of it.
+    fn unread(&mut self, why: &str) {
+        let _ = why;
+    }
     /// The capture ends.
     fn end(&mut self, follower: &mut Follower, capture: &Capture);
 }
@@ -26,7 +34,8 @@ pub trait Taker {
 /// Reads a file to its end, or as far as it can be read. An error is what to say of it.
 pub fn read(file: &OsStr, logs: &KeyLogs, taker: &mut dyn Taker, screen: &Screen) -> Result<(), String> {
     let (bytes, mut polled) = (Cell::new(0), 0);
-    let source = Source::open(file, screen, &bytes).map_err(|error| error.to_string())?;
+    let source = Source::open(file, screen, &bytes).map_err(|error| error.to_string());
+    let source = source.inspect_err(|what| taker.unread(what))?;
     let is_live = source.is_live();
     let (mut capture, mut follower) = (Capture::default(), Follower::default());
     let mut tails = logs.fill(&mut follower.keylog, is_live);
@@ -41,15 +50,16 @@ pub fn read(file: &OsStr, logs: &KeyLogs, taker: &mut dyn Taker, screen: &Screen
             Item::Secrets(text) => follower.keylog.add(text),
         }
     });
+    let failure = match read {
+        Err(error) => Some(said(&error, capture.records())),
+        Ok(()) if bytes.get() == 0 => Some("the file is empty".into()),
+        Ok(()) if capture.is_cut() => Some(format!("cut off after record {}", capture.records())),
+        Ok(()) => None,
+    };
+    failure.iter().filter(|_| !screen.has_failed()).for_each(|what| taker.failed(what));
     taker.end(&mut follower, &capture);
     screen.clear();
-    match read {
-        _ if screen.has_failed() => Ok(()),
-        Err(error) => Err(said(&error, capture.records())),
-        Ok(()) if bytes.get() == 0 => Err("the file is empty".into()),
-        Ok(()) if capture.is_cut() => Err(format!("cut off after record {}", capture.records())),
-        Ok(()) => Ok(()),
-    }
+    failure.filter(|_| !screen.has_failed()).map_or(Ok(()), Err)
 }
 
 /// Reads each file, several at once if all are on the disk. What is written of a file comes after what is of those

@@ -109,6 +109,18 @@ pub struct Half {
     pub addresses: Option<(SocketAddr, SocketAddr)>,
     /// The last one that counted, which may be shortened.
     pub close: Option<Said>,
+    /// When the last of its packets that weren't opened was captured.
+    pub last_shut: Option<u64>,
+    /// Whether none was opened after it.
+    pub ends_shut: bool,
+}
+
+impl Half {
+    // Notes a packet that keys might have opened.
+    fn shut(&mut self, time: u64) {
+        self.last_shut = self.last_shut.max(Some(time));
+        self.ends_shut = true;
+    }
 }
 
 /// A connection when it is forgotten, or at the end of the capture.
@@ -119,6 +131,20 @@ pub struct Sum<'a> {
     pub how: Option<Ended>,
     /// When the capture begins, in nanoseconds since 1970.
     pub begun: u64,
+}
+
+impl Sum<'_> {
+    /// When its first and its last packet were captured, also one that wasn't opened, in nanoseconds since 1970.
+    pub fn times(&self) -> (u64, u64) {
+        let (first, last) = self.connection.times();
+        let shut = self.tally.sides.iter().filter_map(|half| half.last_shut).max();
+        (first, shut.map_or(last, |shut| last.max(shut)))
+    }
+
+    /// Whether the last packets of a side weren't opened, which may have ended it.
+    pub fn ends_shut(&self) -> bool {
+        self.tally.sides.iter().any(|half| half.ends_shut)
+    }
 }
 
 /// A capture at its end.
@@ -149,6 +175,11 @@ pub fn is_plain(why: Unopened) -> bool {
     matches!(why, Unopened::VersionNegotiation | Unopened::Retry | Unopened::StatelessReset)
 }
 
+/// Whether it is a packet with protection, which keys might have opened.
+pub fn is_protected(why: Unopened) -> bool {
+    !is_plain(why) && why != Unopened::InvalidRetry
+}
+
 /// What is found, as far as it is to be shown.
 pub struct Report<'a> {
     filter: Cow<'a, Filter>,
@@ -158,11 +189,26 @@ pub struct Report<'a> {
     tallies: HashMap<usize, Tally>,
     /// The number of the first connection that isn't summed up, of those that are still there.
     summed: usize,
+    /// How many connections there were, at the end.
+    connections: usize,
 }
 
 impl<'a> Report<'a> {
     pub fn new(filter: Cow<'a, Filter>, forms: Vec<Box<dyn Form + 'a>>) -> Self {
-        Report { filter, forms, begun: None, parts: Vec::new(), tallies: HashMap::new(), summed: 0 }
+        let (parts, tallies) = (Vec::new(), HashMap::new());
+        Report { filter, forms, begun: None, parts, tallies, summed: 0, connections: 0 }
+    }
+
+    /// What to say at the end of the connections that are to be shown, and that the capture doesn't have.
+    pub fn missing(&self) -> Option<String> {
+        let missing = self.filter.connections.iter().filter(|number| **number >= self.connections);
+        let numbers: Vec<_> = missing.map(ToString::to_string).collect();
+        let all = match self.connections {
+            0 => "has none".into(),
+            1 => "has only 0".into(),
+            count => format!("has 0 to {}", count - 1),
+        };
+        (!numbers.is_empty()).then(|| format!("there is no connection {}: the file {all}", numbers.join(", ")))
     }
 
     /// Says when a datagram was captured, if what is found in it is passed on to this sink.
@@ -207,6 +253,7 @@ impl<'a> Report<'a> {
             half.opened += 1;
             // Anyone can send a packet again, from elsewhere.
             if again.is_none() {
+                half.ends_shut = false;
                 half.addresses = Some((half.addresses.map_or(from, |(first, _)| first), from));
             }
             // One in an Initial packet counts no longer once the side goes on.
@@ -263,6 +310,7 @@ impl Taker for Report<'_> {
         follower.connections_from(self.summed).for_each(|connection| self.sum_up(connection));
         self.tallies.clear();
         let (counts, skipped_lines) = (follower.counts(), follower.keylog.skipped());
+        self.connections = counts.connections;
         let whole = Whole { begun: self.begun, capture, counts, skipped_lines };
         self.forms.iter_mut().for_each(|form| form.end(&whole));
     }
@@ -346,6 +394,9 @@ impl Sink for Report<'_> {
     ) {
         if let Some(half) = self.half(owner) {
             *half.unopened.entry(why).or_default() += 1;
+            if is_protected(why) {
+                half.shut(datagram.time);
+            }
         }
         if let Some((connection, side)) = owner.filter(|_| why == Unopened::StatelessReset) {
             self.tallies.entry(connection.number()).or_default().reset.get_or_insert(side);
@@ -365,6 +416,9 @@ impl Sink for Report<'_> {
         offset: usize,
         why: Rest,
     ) {
+        if let Some(half) = self.half(owner).filter(|_| why == Rest::NotCaptured) {
+            half.shut(datagram.time);
+        }
         let place = self.place(owner, datagram, index);
         let marks = Marks { rejected: why != Rest::Zeros, ..Marks::default() };
         if self.filter.fits(&place, None, std::iter::empty(), marks) {

@@ -1,7 +1,7 @@
 //! Lines for people.
 use super::report::{Fault, Form, Packet, Part, Place, Sum, Tally, Whole, is_plain};
 use super::screen::Screen;
-use super::words::{self, Date, Seconds};
+use super::words::{self, Date, Seconds, count, unopened};
 use crate::colour::{Painted, Part as Tone};
 use crate::datagram;
 use crate::frames;
@@ -231,7 +231,7 @@ impl Form for Text<'_> {
         for (what, name) in names.iter().filter_map(|(what, name)| Some((what, name.as_ref()?))) {
             put!(self.lines, ", {what} {}", Value::Text(name));
         }
-        let (first, last) = connection.times();
+        let (first, last) = sum.times();
         let [first, last] = [first, last].map(|time| Seconds(words::after(sum.begun, time)));
         put!(self.lines, ", {first} to {last}");
         self.field(&("first_dst", Value::bytes(connection.first_dcid())));
@@ -276,20 +276,5 @@ impl Form for Text<'_> {
             put!(self.lines, "{MARGIN}{line}\n");
         }
         self.write();
-    }
-}
-
-// A number of things.
-fn count(count: u64, what: &str, which: &str) -> String {
-    let (plural, blank) = (if count == 1 { "" } else { "s" }, if which.is_empty() { "" } else { " " });
-    format!("{count} {what}{plural}{blank}{which}")
-}
-
-fn unopened(why: Unopened, n: u64) -> String {
-    match why {
-        Unopened::VersionNegotiation => count(n, "version negotiation", ""),
-        Unopened::Retry => count(n, "Retry packet", ""),
-        Unopened::StatelessReset => count(n, "stateless reset", ""),
-        why => format!("{}: {why}", count(n, "packet", "not opened")),
     }
 }

@@ -10,7 +10,7 @@ use quic_wire::packet::VERSION_2;
 use quic_wire::transport_error::Code;
 use quic_wire_capture::ciphers::Suite;
 use quic_wire_capture::recovery::{Sent, Threshold};
-use quic_wire_capture::sink::Ended;
+use quic_wire_capture::sink::{Ended, Unopened};
 use std::fmt::{self, Display, Formatter};
 
 // How many bytes of a reason are kept until a connection is summed up.
@@ -126,11 +126,28 @@ pub fn ended(sum: &Sum<'_>) -> String {
     said.extend(reset.map(|side| format!("the {} sent a stateless reset", side_name(side))));
     match how {
         _ if !said.is_empty() => said.join("; "),
+        Some(Ended::Silent) | None if sum.ends_shut() => "not known: its last packets weren't opened".into(),
         Some(Ended::Silent) => "nothing more came, until it had timed out".into(),
         Some(Ended::Crowded) => "it was forgotten, since there were too many at once".into(),
         Some(Ended::Closed) => "it was closed".into(),
         Some(Ended::Reset) => "it was reset".into(),
         None => "it was open at the end of the capture".into(),
+    }
+}
+
+/// A number of things.
+pub fn count(count: u64, what: &str, which: &str) -> String {
+    let (plural, blank) = (if count == 1 { "" } else { "s" }, if which.is_empty() { "" } else { " " });
+    format!("{count} {what}{plural}{blank}{which}")
+}
+
+/// How many packets weren't opened, and why.
+pub fn unopened(why: Unopened, n: u64) -> String {
+    match why {
+        Unopened::VersionNegotiation => count(n, "version negotiation", ""),
+        Unopened::Retry => count(n, "Retry packet", ""),
+        Unopened::StatelessReset => count(n, "stateless reset", ""),
+        why => format!("{}: {why}", count(n, "packet", "not opened")),
     }
 }
 

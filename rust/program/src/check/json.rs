@@ -102,7 +102,13 @@ impl<L: Lines> Form for Json<L> {
             object.number("datagrams", counts.datagrams);
             object.number("connections", counts.connections as u64);
             object.number("opened", counts.opened);
-            object.number("unopened", counts.unopened.values().sum());
+            object.number("unopened", whole.shut());
+            object.list("unopened_reasons", whole.unopened(), |object, (why, count)| {
+                object.word("reason", &why.to_string());
+                object.number("count", count);
+            });
+            object.number("skipped_lines", whole.skipped_lines);
+            whole.has_enough().into_iter().for_each(|is_so| object.flag("enough_opened", is_so));
             object.number("rules", *rules as u64);
             object.number("must", whole.broken(Level::Must));
             object.number("should", whole.broken(Level::Should));
@@ -114,6 +120,7 @@ impl<L: Lines> Form for Json<L> {
                 }
             });
             object.flag("cut_off", capture.is_cut());
+            whole.unread.into_iter().for_each(|why| object.word("unread", why));
         });
         self.name.clear();
     }

@@ -1,7 +1,7 @@
 //! One object of SARIF 2.1.0, by which CI systems annotate what they check.
 use super::{Form, Whole};
 use crate::capture::object::Object;
-use crate::capture::words;
+use crate::capture::words::{self, count};
 use quic_wire_check::finding::Finding;
 use quic_wire_check::rule::{Level, Rule, Section};
 use std::collections::BTreeMap;
@@ -19,12 +19,27 @@ pub struct Log<'a> {
     captures: Mutex<BTreeMap<usize, Found>>,
 }
 
-/// What a capture has: where it is, what was found in it, and how often a rule was silent.
+/// What a capture has: where it is, what was found in it, and what wasn't checked.
 #[derive(Default)]
 struct Found {
     uri: String,
     results: List,
-    silent: List,
+    notes: List,
+}
+
+impl Found {
+    // Adds what wasn't checked, by a rule or by any.
+    fn note(&mut self, rule: Option<&str>, level: &str, what: &str) {
+        let uri = &self.uri;
+        self.notes.add(|object| {
+            rule.into_iter().for_each(|rule| object.inner("associatedRule", |object| object.word("id", rule)));
+            object.word("level", level);
+            message(object, "message", what);
+            object.list("locations", [uri], |object, uri| {
+                object.inner("physicalLocation", |object| artifact(object, uri));
+            });
+        });
+    }
 }
 
 /// What is found in a capture goes into a log.
@@ -63,10 +78,16 @@ impl<'a> Log<'a> {
         Log { rules, captures: Mutex::default() }
     }
 
-    /// The object, and whether all captures could be read.
-    pub fn text(&self, are_read: bool) -> String {
+    /// The object: whether all files could be read, and which key logs can't be, and why.
+    pub fn text(&self, are_read: bool, unread: &[String]) -> String {
         let captures = self.captures.lock().unwrap_or_else(PoisonError::into_inner);
-        let mut text = String::new();
+        let (mut text, mut of_logs) = (String::new(), List::default());
+        for what in unread {
+            of_logs.add(|object| {
+                object.word("level", "error");
+                message(object, "message", &format!("key log not read: {what}"));
+            });
+        }
         let mut object = Object::new(&mut text);
         object.word("$schema", SCHEMA);
         object.word("version", "2.1.0");
@@ -74,7 +95,8 @@ impl<'a> Log<'a> {
             object.inner("tool", |object| object.inner("driver", |object| log.driver(object)));
             object.list("invocations", [&captures], |object, captures| {
                 object.flag("executionSuccessful", are_read);
-                put(object, "toolExecutionNotifications", captures.values().map(|found| &found.silent));
+                let notes = captures.values().map(|found| &found.notes);
+                put(object, "toolExecutionNotifications", [&of_logs].into_iter().chain(notes));
             });
             object.list("artifacts", captures.values(), |object, found| {
                 object.inner("location", |object| object.word("uri", &found.uri));
@@ -202,16 +224,15 @@ impl Form for Sarif<'_> {
         for finding in &whole.report.findings {
             self.log.result(&mut found.results, &found.uri, finding, whole.reason(finding));
         }
-        for ((rule, need), count) in &whole.report.unchecked {
-            found.silent.add(|object| {
-                object.inner("associatedRule", |object| object.word("id", rule));
-                object.word("level", "note");
-                message(object, "message", &format!("not checked {count} times: {}", need.reason()));
-                object.list("locations", [&found.uri], |object, uri| {
-                    object.inner("physicalLocation", |object| artifact(object, uri));
-                });
-            });
+        for ((rule, need), number) in &whole.report.unchecked {
+            let what = format!("not checked {}: {}", count(*number, "time", ""), need.reason());
+            found.note(Some(rule), "note", &what);
         }
+        whole.unopened().for_each(|(why, number)| found.note(None, "note", &words::unopened(why, number)));
+        if whole.skipped_lines > 0 {
+            found.note(None, "warning", &count(whole.skipped_lines, "line", "of key logs skipped"));
+        }
+        whole.gap().into_iter().chain(whole.lack()).for_each(|what| found.note(None, "error", &what));
         self.log.captures.lock().unwrap_or_else(PoisonError::into_inner).insert(self.place, found);
     }
 }

@@ -1,7 +1,7 @@
 //! Lines for people.
 use super::{Form, Whole};
 use crate::capture::screen::Screen;
-use crate::capture::words;
+use crate::capture::words::{self, count};
 use crate::colour::{Painted, Part as Tone};
 use quic_wire_check::finding::{Finding, Report};
 use quic_wire_check::rule::{Level, Rule};
@@ -42,6 +42,30 @@ impl<'s> Text<'s> {
         format!("{source} connection {connection} {sender} {kind}, {place}{again}\n")
             + &format!("    {rule}: {seen}; expected: {expected} ({section}){allowed}\n")
     }
+
+    // What no rule saw, and why.
+    fn lacks(&self, whole: &Whole<'_>) -> Vec<String> {
+        let mut lacks: Vec<_> = whole.unopened().map(|(why, number)| words::unopened(why, number)).collect();
+        if whole.skipped_lines > 0 {
+            lacks.push(count(whole.skipped_lines, "line", "of key logs skipped"));
+        }
+        let failures = whole.gap().into_iter().chain(whole.lack());
+        lacks.extend(failures.map(|what| self.paint(Tone::Error, what).to_string()));
+        lacks
+    }
+}
+
+// How many rules are broken.
+fn broken(whole: &Whole<'_>) -> String {
+    match (whole.broken(Level::Must), whole.broken(Level::Should), whole.allowed()) {
+        (0, 0, 0) => "nothing found".into(),
+        (must, should, allowed) => [(must, "MUST broken"), (should, "SHOULD broken"), (allowed, "allowed")]
+            .iter()
+            .filter(|(number, _)| *number > 0)
+            .map(|(number, what)| format!("{number} {what}"))
+            .collect::<Vec<_>>()
+            .join(", "),
+    }
 }
 
 // A name or a reason, in which control characters are escaped: a terminal would obey them.
@@ -54,11 +78,6 @@ fn printable(text: &str) -> String {
         }
         shown
     })
-}
-
-// A number of things.
-fn count(number: u64, one: &str) -> String {
-    if number == 1 { format!("1 {one}") } else { format!("{number} {one}s") }
 }
 
 // Where the connections were captured.
@@ -91,29 +110,26 @@ impl Form for Text<'_> {
         let mut lines: String = report.findings.iter().map(finding).collect();
         let source = self.paint(Tone::Source, format!("{name}:"));
         for ((rule, need), number) in &report.unchecked {
-            let times = count(*number, "time");
+            let times = count(*number, "time", "");
             lines.push_str(&format!("{source} {rule} not checked {times}: {}\n", need.reason()));
         }
         if whole.further() > 0 {
-            lines.push_str(&format!("{source} {} not kept\n", count(whole.further(), "further finding")));
+            lines.push_str(&format!("{source} {} not kept\n", count(whole.further(), "further finding", "")));
         }
-        let unopened: u64 = counts.unopened.values().sum();
-        let broken = match (whole.broken(Level::Must), whole.broken(Level::Should), whole.allowed()) {
-            (0, 0, 0) => "nothing found".into(),
-            (must, should, allowed) => [(must, "MUST broken"), (should, "SHOULD broken"), (allowed, "allowed")]
-                .iter()
-                .filter(|(number, _)| *number > 0)
-                .map(|(number, what)| format!("{number} {what}"))
-                .collect::<Vec<_>>()
-                .join(", "),
-        };
+        self.lacks(whole).iter().for_each(|what| lines.push_str(&format!("{source} {what}\n")));
+        // Nothing is clean that can't be read.
+        if whole.unread.is_some() && capture.records() == 0 {
+            return self.screen.write(&lines);
+        }
         lines.push_str(&format!(
-            "{source} {}, {}{}, {} opened, {unopened} not opened, {}: {broken}\n",
-            count(capture.records(), "record"),
-            count(counts.connections as u64, "connection"),
+            "{source} {}, {}{}, {}, {} not opened, {}: {}\n",
+            count(capture.records(), "record", ""),
+            count(counts.connections as u64, "connection", ""),
             taken(report),
-            count(counts.opened, "packet"),
-            count(*rules as u64, "rule"),
+            count(counts.opened, "packet", "opened"),
+            whole.shut(),
+            count(*rules as u64, "rule", ""),
+            broken(whole),
         ));
         self.screen.write(&lines);
     }

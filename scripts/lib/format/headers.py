@@ -22,7 +22,9 @@ PARAGRAPHS = [
 ]
 # What the figure of a header can't say.
 NOTES = {
-    NEGOTIATION: "The first unused bit is the fixed bit of other headers, which `is_fixed` requires here too. The"
+    NEGOTIATION: "The RFC gives these ids up to 255 bytes; those of a packet of a version that is read have at most 20,"
+        " and a version negotiation that answers it repeats them."
+        " The first unused bit is the fixed bit of other headers, which `is_fixed` requires here too. The"
         " versions are given as bytes, however many these are.",
     "Retry": "Retry Token and Retry Integrity Tag are given as bytes, however many these are.",
     "1-RTT": "Destination Connection ID is what the parser of ids reads (`ShortId`).",

@@ -36,7 +36,7 @@ impl fmt::Display for Section {
 pub enum Level {
     /// A MUST or a MUST NOT.
     Must,
-    /// A SHOULD, or something that the RFC says won't work.
+    /// A SHOULD, something that the RFC says won't work, or what it describes without a MUST.
     Should,
 }
 

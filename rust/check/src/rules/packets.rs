@@ -68,6 +68,7 @@ pub(super) static RULES: &[Rule] = &[
         "After a CONNECTION_CLOSE its sender sends only packets with that frame.",
         Check::Done(after_close),
     )
+    .should()
     .with(History::Before, &[]),
     Rule::must(
         "after-drain",

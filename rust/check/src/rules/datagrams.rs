@@ -16,9 +16,6 @@ const LEAST_ID: usize = 4;
 // A datagram of more bytes may be several, which the network card cuts apart or has joined.
 const MOST_USUAL: usize = 1500;
 
-const PATH_AMPLIFICATION: &[Need] =
-    &[Need::Begin, Need::PeerPackets, Need::OwnPackets, Need::NoEarlyData, Need::NoStrays, Need::Order, Need::End];
-
 const AMPLIFICATION: &[Need] = &[
     Need::Begin,
     Need::PeerPackets,
@@ -50,7 +47,7 @@ pub(super) static RULES: &[Rule] = &[
         "A server sends at most three times as many bytes to another address as came from there until it is validated.",
         Check::Datagram(path_amplification),
     )
-    .with(History::Whole, PATH_AMPLIFICATION),
+    .with(History::Whole, AMPLIFICATION),
     Rule::must(
         "payload-size",
         "18.2",

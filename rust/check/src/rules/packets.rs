@@ -61,7 +61,7 @@ pub(super) static RULES: &[Rule] = &[
         "A packet number has enough bytes for twice its distance from the largest acknowledged one, or for all of it.",
         Check::Packet(number_length),
     )
-    .with(History::Whole, &[Need::Begin, Need::PeerPackets, Need::OwnPackets, Need::Order, Need::End]),
+    .with(History::Whole, &[Need::Begin, Need::PeerPackets, Need::OwnPackets, Need::Order, Need::Time, Need::End]),
     Rule::must(
         "after-close",
         "10.2.1",
@@ -84,7 +84,7 @@ pub(super) static RULES: &[Rule] = &[
         "After a Retry all Initial packets of the client have the Retry's token.",
         Check::Packet(initial_token),
     )
-    .with(History::Before, &[Need::Begin, Need::Time]),
+    .with(History::Whole, &[Need::Begin, Need::Time]),
     Rule::must(
         "token-kept",
         "8.1.3",
@@ -295,14 +295,10 @@ fn token_at(opened: &Opened<'_>) -> usize {
 fn initial_token(about: &About<'_>, opened: &Opened<'_>) -> Checked {
     let retry = retry_of(about, opened).filter(|_| opened.kind() == HeaderKind::Initial);
     let given = Token::of(opened.packet().token());
-    let Some(Retry { token, has_other_token, .. }) = retry.filter(|retry| retry.token != given) else {
-        return Ok(None);
-    };
-    if *has_other_token {
-        return Err(Need::Time);
-    }
+    let Some(Retry { token, id, .. }) = retry.filter(|retry| retry.token != given) else { return Ok(None) };
     let seen = if given.len == 0 { "no token".into() } else { format!("another token, of {} bytes", given.len) };
-    Broken::new(seen, format!("the token of the Retry, {} bytes", token.len)).at(token_at(opened)).found()
+    let broken = Broken::new(seen, format!("the token of the Retry, {} bytes", token.len)).at(token_at(opened));
+    broken.if_still(Claim::Token(*id)).found()
 }
 
 // A client that begins anew with another version may have no token for that.

@@ -98,6 +98,8 @@ pub(crate) struct History {
     pub(crate) is_retried: bool,
     /// The version and the least number of the client's Initial packets with a token.
     pub(crate) first_token: Option<(u32, u64)>,
+    /// The version of the client's first Initial packet.
+    pub(crate) first_version: Option<u32>,
     /// The version of the client's last Initial packet before the server answered.
     pub(crate) original_version: Option<u32>,
     /// The CRYPTO data that the client sent to its first id, with their offsets, as long as a Retry may come.
@@ -302,6 +304,7 @@ impl History {
         self.take_destination(opened);
         if is_initial {
             let version = packet.header().version();
+            self.first_version.get_or_insert(version);
             if has_token {
                 let (_, least) = self.first_token.get_or_insert((version, opened.number()));
                 *least = opened.number().min(*least);

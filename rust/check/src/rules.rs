@@ -10,7 +10,7 @@
 //! - `unopened-stream`, `path-response`, `response-twice`, `response-path`, `retire-unknown`, `destination-id`,
 //!   `original-destination-id`, `retry-source-id` and `initial-token` are decided by the whole connection, at its end.
 //! - `update-answer`, `retire-prior`, `after-drain` and `discarded-keys` of a client are about what the packet or one
-//!   before it acknowledges. `retry-version` is silent once a packet of the server was acknowledged.
+//!   before it acknowledges. `retry-version` is about a packet that comes before any answer.
 //! - `payload-size`, `datagram-size`, `unknown-frame`, `fixed-bit`, `coalesced-ids`, `path-size`, `retire-own`,
 //!   `retire-without-bytes` and `chosen-version` need what doesn't change: parameters, ids, addresses and versions.
 //!   Those that need parameters have `Need::PeerParameters`.

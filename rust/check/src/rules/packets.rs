@@ -96,10 +96,10 @@ pub(super) static RULES: &[Rule] = &[
         "retry-version",
         "4.1",
         "After a Retry the client goes on with the Retry's version.",
-        Check::Done(retry_version),
+        Check::Packet(retry_version),
     )
     .of(9369)
-    .with(History::Before, &[Need::Begin]),
+    .with(History::Before, &[Need::Begin, Need::Time]),
     Rule::must(
         "retry-id",
         "17.2.5.1",
@@ -312,8 +312,8 @@ fn token_kept(about: &About<'_>, opened: &Opened<'_>) -> Checked {
     Broken::new("no token", format!("one, as in packet {number}")).at(token_at(opened)).found()
 }
 
-// Once the server has answered, versions may change again (RFC 9368). An answer that isn't in the capture, or comes
-// late in it, shows by its acknowledgment.
+// Once the server has answered, versions may change again (RFC 9368). It answers only what the client sends to the
+// Retry's id, so the first such packet comes before any answer.
 fn retry_version(about: &About<'_>, opened: &Opened<'_>) -> Checked {
     let is_acknowledged = !about.peer_half().acknowledged[SpaceId::Initial as usize].is_empty();
     let is_next = about.peer().first_scid().is_none() && !is_acknowledged;
@@ -321,6 +321,11 @@ fn retry_version(about: &About<'_>, opened: &Opened<'_>) -> Checked {
     let version = opened.packet().header().version();
     if opened.kind() != HeaderKind::Initial || version == retry.version {
         return Ok(None);
+    }
+    let seen = &about.own_half().seen[SpaceId::Initial as usize];
+    let has_before = opened.number().checked_sub(1).is_none_or(|number| seen.contains(number));
+    if about.history.is_retried || !has_before {
+        return Err(Need::Time);
     }
     Broken::new(format!("version {version:#x}"), format!("that of the Retry, {:#x}", retry.version))
         .at(begin(opened) + 1)

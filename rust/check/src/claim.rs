@@ -151,9 +151,11 @@ impl Claim {
                 let validated = but.map_or(history.validated, |_| history.validated_before);
                 validated.is_none() && bytes > received.saturating_mul(3)
             }
-            Claim::BytesTo(address, bytes) => history.peer(address).is_some_and(|peer| {
+            Claim::BytesTo(address, bytes) => history.peer(address).is_some_and(|one| {
                 let less = but.filter(|next| next.from == address).map_or(0, |next| next.bytes);
-                !peer.is_valid && bytes > peer.received.saturating_sub(less).saturating_mul(3)
+                // A challenge that is late in the file may have been sent there.
+                let has_late = || peer.responses.keys().any(|data| !history.half(sender).challenges.contains_key(data));
+                !one.is_valid && bytes > one.received.saturating_sub(less).saturating_mul(3) && !has_late()
             }),
             Claim::Destination(id) => !peer.sources.contains(&id) && !is_issued(connection, !sender, &id),
             Claim::Unconfirmed => is_unconfirmed(history, sender),

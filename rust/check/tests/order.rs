@@ -82,6 +82,21 @@ fn an_answer_to_a_challenge() {
     with(b"\x1b00000000").later().is_silent("path-amplification", Need::Time);
 }
 
+// The address is valid once its challenge was answered, which is in the file after that and after what the server sent.
+#[test]
+fn a_challenge_that_is_late() {
+    let mut talk = Talk::open();
+    talk.made.addresses[0].set_port(5);
+    talk.short(Client, PING).short(Server, b"\x1a12345678").short(Client, &padded(b"\x1b12345678", 1200));
+    let index = talk.next() - 2;
+    for _ in 0..4 {
+        talk.short(Server, &padded(PING, 1178));
+    }
+    talk.short(Client, &all_to(talk.made.numbers[1][2] - 1));
+    talk.all[index..].rotate_left(1);
+    talk.later().is_silent("path-amplification", Need::Time);
+}
+
 // Section 19.20: HANDSHAKE_DONE more than a second before the client's Handshake packet. If a packet of the client is in
 // the file after an ACK of it, times say nothing.
 #[test]

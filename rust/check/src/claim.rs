@@ -321,7 +321,7 @@ impl Pending {
         match self.order {
             Order::Open if is_after => {
                 self.order = Order::Before { number: next.number, datagram: next.datagram };
-                self.due = self.claim.has_spaces(self.finding.sender).then(|| next.time.saturating_add(GRACE));
+                self.due = self.claim.has_spaces(self.finding.sender).then(|| next.time.saturating_add(self.margin()));
                 holds(&self.claim)
             }
             Order::Before { number, datagram } if is_after => {

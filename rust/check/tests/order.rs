@@ -67,6 +67,23 @@ fn an_answer_on_a_fast_link() {
     with(2).is_silent("amplification", Need::Time);
 }
 
+// Section 8.1: the Handshake packet that validates the client's address is in the file after the 1-RTT packet that
+// acknowledges the last datagram, by more than records at a host are late.
+#[test]
+fn a_handshake_packet_that_is_late() {
+    let mut talk = Talk::new();
+    let hello = talk.client_hello();
+    talk.send(Client, Initial, &hello).server_flight();
+    let packets = talk.client_packets();
+    for _ in 0..4 {
+        talk.short(Server, &padded(PING, 1170));
+    }
+    talk.short(Client, &all_to(talk.made.numbers[1][2] - 1)).made.time += 20_000_000;
+    let datagram = talk.made.datagram(Client, packets);
+    talk.all.push(datagram);
+    talk.later().is_silent("amplification", Need::Time);
+}
+
 // Section 9.3: so does the answer to a challenge, without an ACK; one to an earlier challenge doesn't.
 #[test]
 fn an_answer_to_a_challenge() {

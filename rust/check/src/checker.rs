@@ -1,7 +1,7 @@
 //! Applies the rules to what is found in a capture.
 
 use crate::about::{About, Current, Faulty, Held, type_of};
-use crate::claim::{Claim, GRACE, Pending};
+use crate::claim::{Claim, GRACE, Order, Pending};
 use crate::finding::{Finding, Groups, Report};
 use crate::histories::Histories;
 use crate::history::History;
@@ -108,11 +108,12 @@ impl Facts {
 
     // What it lacks when that is decided.
     fn lacking_at_end(&self, pending: &Pending, connection: &Connection, history: &History) -> Option<Need> {
-        let Pending { finding, claim, due, is_proven } = pending;
+        let Pending { finding, claim, order, is_at_sender, is_proven, .. } = pending;
         let (sender, spaces) = (finding.sender, claim.spaces());
         let is_closed = connection.end(sender).closed().or(connection.end(!sender).closed()).is_some();
         // The id before may be issued a bit later.
-        let due = due.or(matches!(claim, Claim::Gap(_)).then(|| finding.time.saturating_add(GRACE)));
+        let is_open = *order == Order::Open && (claim.is_timed() || matches!(claim, Claim::Gap(_)));
+        let is_soon = finding.time.saturating_add(pending.margin()) > connection.times().1;
         if history.is_full {
             return Some(Need::Room);
         }
@@ -127,10 +128,10 @@ impl Facts {
             Need::NoEarlyData => history.has_early,
             Need::NoToken => history.has_token && connection.retry_id().is_none(),
             Need::Order => self.is_disordered,
-            // What validated the address may have come before.
-            Need::Time => history.validated.is_some_and(|at| at < finding.time.saturating_add(GRACE)),
+            // Times say nothing if packets are in the file after what acknowledges them.
+            Need::Time => *order == Order::Passed && !is_at_sender && history.half(!sender).is_late,
             Need::Proof => !is_proven,
-            Need::End => due.is_some_and(|due| due > connection.times().1) && !is_closed,
+            Need::End => is_open && is_soon && !is_closed,
             _ => false,
         })
     }
@@ -218,8 +219,9 @@ impl Checker {
             let with_history = self.table.all().iter().filter(|rule| rule.history != rule::History::None);
             with_history.for_each(|rule| self.groups.silent(rule, Need::Room));
         }
-        let waiting = std::mem::take(&mut history.waiting);
-        for pending in waiting.end(connection, &history) {
+        let (left, explained) = std::mem::take(&mut history.waiting).end(connection, &history);
+        explained.into_iter().for_each(|rule| self.groups.silent(rule, Need::Time));
+        for pending in left {
             match self.facts.lacking_at_end(&pending, connection, &history) {
                 Some(need) => self.groups.silent(pending.finding.rule, need),
                 None => self.groups.add(pending.finding),
@@ -251,14 +253,18 @@ impl Checker {
                 Some(Err(need)) => groups.silent(rule, need),
                 Some(Ok(Some(broken))) => match (facts.lacking(rule, &about), broken.claim) {
                     (Some(need), _) => groups.silent(rule, need),
-                    (None, Some(claim)) => claims.push((place.finding(rule, &about, broken), claim)),
+                    (None, Some(claim)) => {
+                        debug_assert!(!claim.is_timed() || rule.needs.contains(&Need::Time), "{rule:?}");
+                        claims.push((place.finding(rule, &about, broken), claim));
+                    }
                     (None, None) => groups.add(place.finding(rule, &about, broken)),
                 },
             }
         }
+        let is_at_sender = about.is_at_sender();
         let most = most_claims.clamp(*CLAIMS_OF_CONNECTION.start(), *CLAIMS_OF_CONNECTION.end());
         for (finding, claim) in claims {
-            if let Some(left) = history.waiting.add(finding, claim, most) {
+            if let Some(left) = history.waiting.add(Pending::new(finding, claim, is_at_sender), most) {
                 let need = if matches!(left.claim, Claim::Unsent { .. }) { Need::Proof } else { Need::Room };
                 groups.silent(left.finding.rule, need);
             }
@@ -294,6 +300,7 @@ impl Checker {
                 _ => None,
             });
         }
+        self.history(connection).take_next(connection, datagram, opened);
         let most = (MOST_REMEMBERED / self.histories.len()).max(LEAST_REMEMBERED);
         self.judge(what, place, Kind::Packet, |rule, about| match rule {
             Check::Packet(check) => Some(check(about, opened)),

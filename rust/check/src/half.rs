@@ -56,6 +56,8 @@ impl Moment {
 pub(crate) struct Path {
     pub(crate) from: SocketAddr,
     pub(crate) to: SocketAddr,
+    /// The least number of a packet with it.
+    pub(crate) number: u64,
     /// How many had the same data.
     pub(crate) count: u64,
     /// Whether one of them was sent between other addresses.
@@ -63,13 +65,14 @@ pub(crate) struct Path {
 }
 
 impl Path {
-    pub(crate) fn of(datagram: &Datagram<'_>) -> Path {
-        Path { from: datagram.from, to: datagram.to, count: 0, has_others: false }
+    pub(crate) fn of(datagram: &Datagram<'_>, number: u64) -> Path {
+        Path { from: datagram.from, to: datagram.to, number, count: 0, has_others: false }
     }
 
     /// Counts one.
-    pub(crate) fn take(&mut self, datagram: &Datagram<'_>) {
+    pub(crate) fn take(&mut self, datagram: &Datagram<'_>, number: u64) {
         self.count += 1;
+        self.number = self.number.min(number);
         self.compare(datagram);
     }
 
@@ -137,6 +140,8 @@ pub(crate) struct Half {
     pub(crate) crypto_version: Option<u32>,
     /// Whether it offers an extension that isn't known here.
     pub(crate) has_extension: bool,
+    /// Whether a packet of it is in the file after one that acknowledges it.
+    pub(crate) is_late: bool,
     /// The bytes of its datagrams.
     pub(crate) bytes: u64,
     /// Whether the capturing host sent any of them, and whether it received any.

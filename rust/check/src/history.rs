@@ -1,6 +1,6 @@
 //! What is remembered of a connection beside what `quic_wire_capture` knows of it.
 
-use crate::claim::Waiting;
+use crate::claim::{Next, Waiting};
 use crate::half::{Half, Moment, Path, Reset};
 use crate::tls::Messages;
 use crate::vantage::Vantage;
@@ -83,6 +83,10 @@ pub(crate) struct History {
     pub(crate) has_token: bool,
     /// Since when the server may know the client's address, in nanoseconds since 1970.
     pub(crate) validated: Option<u64>,
+    /// The same before the last datagram.
+    pub(crate) validated_before: Option<u64>,
+    /// How many datagrams there were.
+    pub(crate) datagrams: u64,
     /// Whether the handshake is confirmed, as the server has said.
     pub(crate) is_confirmed: bool,
     /// The client's addresses.
@@ -94,6 +98,8 @@ pub(crate) struct History {
     pub(crate) is_retried: bool,
     /// The version and the least number of the client's Initial packets with a token.
     pub(crate) first_token: Option<(u32, u64)>,
+    /// The version of the client's first Initial packet.
+    pub(crate) first_version: Option<u32>,
     /// The version of the client's last Initial packet before the server answered.
     pub(crate) original_version: Option<u32>,
     /// The CRYPTO data that the client sent to its first id, with their offsets, as long as a Retry may come.
@@ -137,6 +143,11 @@ fn insert_few(set: &mut RangeSet, number: u64) {
     if set.len() < MOST_COMPARED {
         set.insert_one(number);
     }
+}
+
+/// How many bytes a datagram has.
+pub(crate) fn bytes_of(datagram: &Datagram<'_>) -> u64 {
+    (datagram.bytes.len() + datagram.missing) as u64
 }
 
 /// The two low bits of a stream's id.
@@ -193,8 +204,10 @@ impl History {
 
     /// Takes a datagram of a side.
     pub(crate) fn take_datagram(&mut self, datagram: &Datagram<'_>, sender: Side) {
+        self.validated_before = self.validated;
+        self.datagrams += 1;
         let half = &mut self.halves[sender as usize];
-        let bytes = (datagram.bytes.len() + datagram.missing) as u64;
+        let bytes = bytes_of(datagram);
         half.bytes = half.bytes.saturating_add(bytes);
         half.is_sent |= datagram.outgoing == Some(true);
         half.is_received |= datagram.outgoing == Some(false);
@@ -248,6 +261,7 @@ impl History {
             half.least_short = Some(half.least_short.map_or(opened.number(), |least| least.min(opened.number())));
             half.add_phase(opened.updates(), opened.number());
         }
+        half.is_late |= half.acknowledged[opened.space() as usize].contains(opened.number());
         if !self.is_full {
             half.seen[opened.space() as usize].insert_one(opened.number());
         }
@@ -290,6 +304,7 @@ impl History {
         self.take_destination(opened);
         if is_initial {
             let version = packet.header().version();
+            self.first_version.get_or_insert(version);
             if has_token {
                 let (_, least) = self.first_token.get_or_insert((version, opened.number()));
                 *least = opened.number().min(*least);
@@ -413,7 +428,7 @@ impl History {
                 *by = (*by).min(number);
             }
             Frame::PathChallenge(data) => {
-                own.challenges.entry(*data).or_insert_with(|| Path::of(datagram)).take(datagram);
+                own.challenges.entry(*data).or_insert_with(|| Path::of(datagram, number)).take(datagram, number);
                 // Its answer may be in the file before it.
                 if sender == Side::Server && peer.responses.contains_key(data) {
                     validate(&mut self.peers, datagram.to);
@@ -478,6 +493,17 @@ impl History {
         let is_unknown = |id: u64| known(id).is_none() && !HARMLESS.contains(&id);
         let has_extension = entries(list).flatten().any(|entry| is_unknown(entry.id) && !entry.is_reserved());
         self.halves[sender as usize].has_extension |= has_extension;
+    }
+
+    /// Takes note of an opened packet whose number is new, before it is taken: it may show what its peer sent before.
+    pub(crate) fn take_next(&mut self, connection: &Connection, datagram: &Datagram<'_>, opened: &Opened<'_>) {
+        if self.waiting.is_empty() {
+            return;
+        }
+        let next = Next::new(connection, self, datagram, opened);
+        let mut waiting = std::mem::take(&mut self.waiting);
+        waiting.take_next(&next, connection, self);
+        self.waiting = waiting;
     }
 
     /// Tries the claims whose time has come.

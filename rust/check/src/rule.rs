@@ -36,7 +36,7 @@ impl fmt::Display for Section {
 pub enum Level {
     /// A MUST or a MUST NOT.
     Must,
-    /// A SHOULD, or something that the RFC says won't work.
+    /// A SHOULD, something that the RFC says won't work, or what it describes without a MUST.
     Should,
 }
 
@@ -94,7 +94,9 @@ pub enum Need {
     NoEarlyData,
     /// That records are in the order of their times.
     Order,
-    /// That a second has passed, or 10 ms where the packet was sent or received: packets may be reordered.
+    /// That what the packet's sender knew shows: by the first packet of its receiver that acknowledges it or answers it;
+    /// by time, which is 10 ms at its sender's host, and otherwise a second, if several number spaces count; or by the
+    /// whole connection. Packets may be reordered, and all of a side be late in the capture.
     Time,
     /// That the address was validated by a handshake.
     ValidAddress,

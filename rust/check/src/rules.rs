@@ -1,4 +1,21 @@
 //! The rules, as one table.
+//!
+//! Many depend on what the peer of a packet's sender had sent before. All of the peer's packets may be late in the file,
+//! or not in it, so no rule accuses by the records alone:
+//!
+//! - `stream-count`, `stream-data-limit`, `data-limit`, `id-count`, `number-length`, `amplification`,
+//!   `path-amplification`, `early-done`, `early-update` and `second-update` are about that moment. They need
+//!   `Need::Time`: a packet that the sender may have known refutes them (`claim::Order`).
+//! - `ack-unsent` is too. It needs `Need::Proof`, a packet that shows what had not been sent.
+//! - `unopened-stream`, `path-response`, `response-twice`, `response-path`, `retire-unknown`, `destination-id`,
+//!   `original-destination-id`, `retry-source-id` and `initial-token` are decided by the whole connection, at its end.
+//! - `update-answer`, `retire-prior`, `after-drain` and `discarded-keys` of a client are about what the packet or one
+//!   before it acknowledges. `retry-version` is about a packet that comes before any answer.
+//! - `payload-size`, `datagram-size`, `unknown-frame`, `fixed-bit`, `coalesced-ids`, `path-size`, `retire-own`,
+//!   `retire-without-bytes` and `chosen-version` need what doesn't change: parameters, ids, addresses and versions.
+//!   Those that need parameters have `Need::PeerParameters`.
+//!
+//! In the first three groups packets that were acknowledged and aren't in the file are `Need::PeerPackets`.
 
 mod datagrams;
 mod frames;

@@ -175,6 +175,14 @@ fn an_answer_that_is_missing() {
     let index = talk.next();
     talk.server_flight().all.remove(index);
     talk.client_flight().confirm().later().finds_nothing();
+    // Nor is the packet that it answers, and the client's next one acknowledges nothing.
+    let mut talk = Talk::new();
+    talk.send(Client, Initial, &hello);
+    let retry = talk.made.retry(b"retried");
+    talk.all.push(retry);
+    talk.send(Client, Initial, &hello).all.pop();
+    talk.made.version = VERSION_2;
+    talk.send(Client, Initial, &padded(PING, 1200)).is_silent("retry-version", Need::Time);
 }
 
 // RFC 9368, section 4: half of the ClientHello isn't in the capture, and comes again with a packet of the version that
@@ -190,6 +198,9 @@ fn a_hello_that_is_whole_late() {
     talk.made.version = VERSION_2;
     talk.server_flight().send(Client, Initial, &padded(&back, 1200));
     talk.client_flight().confirm().later().finds_nothing();
+    // The server's answer is late.
+    talk.all.swap(1, 2);
+    talk.finds_nothing();
 }
 
 // Section 18.2: datagrams of one size, and a shorter one, that the network card cuts apart or has joined. The client

@@ -23,6 +23,7 @@ const KNOWN: &[(&str, &str, u64)] = &[
     ("ngtcp2-migration.pcap", "path-size", 23),
     ("ngtcp2-rebinding.pcap", "path-size", 18),
     ("openssl-nginx.pcap", "after-close", 12),
+    ("quinn-migration.pcap", "path-amplification", 41),
 ];
 
 fn seeds() -> Vec<Seed> {

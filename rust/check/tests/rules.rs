@@ -28,9 +28,7 @@ fn new_id(sequence: u64, retire_prior_to: u64, id: &[u8], token: u8) -> Vec<u8> 
 fn lawful_connections() {
     assert!(report_of(KEYS, &read(CAPTURE)).findings.is_empty());
     let report = Talk::open().later().later().finds_nothing();
-    // Of the client's first datagram.
-    let unchecked: Vec<_> = report.unchecked.into_iter().collect();
-    assert_eq!(unchecked, [(("payload-size", Need::PeerParameters), 1)]);
+    assert!(report.unchecked.is_empty(), "{:?}", report.unchecked);
 }
 
 #[test]

@@ -16,9 +16,6 @@ const LEAST_ID: usize = 4;
 // A datagram of more bytes may be several, which the network card cuts apart or has joined.
 const MOST_USUAL: usize = 1500;
 
-const PATH_AMPLIFICATION: &[Need] =
-    &[Need::Begin, Need::PeerPackets, Need::OwnPackets, Need::NoEarlyData, Need::NoStrays, Need::Order, Need::End];
-
 const AMPLIFICATION: &[Need] = &[
     Need::Begin,
     Need::PeerPackets,
@@ -50,7 +47,7 @@ pub(super) static RULES: &[Rule] = &[
         "A server sends at most three times as many bytes to another address as came from there until it is validated.",
         Check::Datagram(path_amplification),
     )
-    .with(History::Whole, PATH_AMPLIFICATION),
+    .with(History::Whole, AMPLIFICATION),
     Rule::must(
         "payload-size",
         "18.2",
@@ -103,11 +100,15 @@ fn path_amplification(about: &About<'_>) -> Checked {
 }
 
 fn payload_size(about: &About<'_>) -> Checked {
-    let (size, most) = (about.size() as u64, about.limits()?.max_udp_payload_size.into_inner());
-    // A client knows the parameter once it sends 1-RTT packets; what it sent before may come later.
-    let is_long = about.datagram.bytes.first().is_some_and(|first| first & LONG_HEADER_FORM != 0);
-    let is_allowed = size <= most || about.sender == Side::Client && is_long;
-    if is_allowed || sizes(about).into_iter().any(|size| size as u64 <= most) {
+    // A client knows the parameter once it sends 1-RTT packets; what it sent before may come later. Everyone receives
+    // 1200 bytes.
+    let (size, is_short) =
+        (about.size(), about.datagram.bytes.first().is_some_and(|first| first & LONG_HEADER_FORM == 0));
+    if size <= usize::from(MIN_INITIAL_SIZE) || about.sender == Side::Client && !is_short {
+        return Ok(None);
+    }
+    let most = about.limits()?.max_udp_payload_size.into_inner();
+    if size as u64 <= most || sizes(about).into_iter().any(|size| size as u64 <= most) {
         return Ok(None);
     }
     Broken::new(format!("a datagram of {size} bytes"), format!("at most {most}, the peer's max_udp_payload_size"))

@@ -76,7 +76,7 @@ pub(super) static RULES: &[Rule] = &[
         "A server sends PATH_RESPONSE to the address from which the PATH_CHALLENGE came.",
         Check::Frame(Types::PATH_RESPONSE, response_path),
     )
-    .with(History::Before, &[]),
+    .with(History::Whole, &[]),
     Rule::must(
         "challenge-data",
         "8.2.1",
@@ -247,16 +247,15 @@ fn response_twice(about: &About<'_>, _: &Opened<'_>, held: &Held<'_>) -> Checked
     Broken::new(seen, "only one").in_payload(held.range.start).if_still(Claim::AnswerAgain(*data)).found()
 }
 
-// A client may be behind a NAT that changes its port between both. On a host that is a NAT each packet is captured twice,
-// with both addresses.
+// A client may be behind a NAT that changes its port between both.
 fn response_path(about: &About<'_>, _: &Opened<'_>, held: &Held<'_>) -> Checked {
     let Frame::PathResponse(data) = held.frame else { return Ok(None) };
     let (to, is_server) = (about.datagram.to, about.sender == Side::Server);
-    let has_copies = about.history.peer(to).is_some_and(|peer| !peer.is_own);
-    let challenge = about.peer_half().challenges.get(data).filter(|path| is_server && !path.has_others && !has_copies);
-    let Some(path) = challenge.filter(|path| path.from != to) else { return Ok(None) };
-    Broken::new(format!("a PATH_RESPONSE to {}", about.datagram.to), format!("one to {}", path.from))
+    let challenge = about.peer_half().challenges.get(data).filter(|path| is_server && path.from != to);
+    let Some(path) = challenge else { return Ok(None) };
+    Broken::new(format!("a PATH_RESPONSE to {to}"), format!("one to {}", path.from))
         .in_payload(held.range.start)
+        .if_still(Claim::AnswerTo(*data, to))
         .found()
 }
 

@@ -63,7 +63,7 @@ pub(super) static RULES: &[Rule] = &[
         "A server sends HANDSHAKE_DONE only once the client has sent a Handshake packet.",
         Check::Frame(Types::HANDSHAKE_DONE, early_done),
     )
-    .with(History::Whole, &[Need::Begin, Need::PeerPackets, Need::OwnPackets, Need::Order, Need::End]),
+    .with(History::Whole, &[Need::Begin, Need::PeerPackets, Need::OwnPackets, Need::Order, Need::Time, Need::End]),
 ];
 
 fn retry_hello(about: &About<'_>, opened: &Opened<'_>, held: &Held<'_>) -> Checked {

@@ -32,7 +32,7 @@ pub(super) static RULES: &[Rule] = &[
     )
     .with(
         History::Whole,
-        &[Need::Begin, Need::PeerParameters, Need::PeerPackets, Need::OwnPackets, Need::Order, Need::End],
+        &[Need::Begin, Need::PeerParameters, Need::PeerPackets, Need::OwnPackets, Need::Order, Need::Time, Need::End],
     ),
     Rule::must(
         "id-sequence",
@@ -133,14 +133,14 @@ fn id_twice(about: &About<'_>, _: &Opened<'_>, held: &Held<'_>) -> Checked {
 fn id_count(about: &About<'_>, _: &Opened<'_>, held: &Held<'_>) -> Checked {
     let Some(new) = new_id(held) else { return Ok(None) };
     let most = about.limits()?.active_connection_id_limit.into_inner();
-    let added = Some((new.sequence, new.retire_prior_to));
-    let active = active_ids(about.connection, about.history, about.sender, added);
+    let (sequence, prior) = (new.sequence, new.retire_prior_to.max(about.own_half().prior));
+    let active = active_ids(about.connection, about.history, about.sender, sequence, prior);
     if active <= most {
         return Ok(None);
     }
     Broken::new(format!("{active} active ids"), format!("at most {most}, the peer's active_connection_id_limit"))
         .in_payload(held.range.start)
-        .if_still(Claim::Ids)
+        .if_still(Claim::Ids { sequence, prior })
         .found()
 }
 

@@ -2,7 +2,7 @@
 
 use super::packets::begin;
 use crate::about::{About, Held};
-use crate::claim::{Claim, GRACE, is_unconfirmed};
+use crate::claim::{Claim, GRACE, SECOND, is_unconfirmed};
 use crate::half::{Moment, Phase};
 use crate::rule::{Broken, Check, Checked, History, Need, Rule, Section, Types};
 use quic_wire::Side;
@@ -12,10 +12,8 @@ use quic_wire::ids::SpaceId;
 use quic_wire_capture::opened::Opened;
 use std::ops::RangeInclusive;
 
-const SECOND: u64 = 1_000_000_000;
-
 // What decides whether a side knew by then what its peer had sent.
-const KNOWLEDGE: &[Need] = &[Need::Begin, Need::PeerPackets, Need::OwnPackets, Need::Order, Need::End];
+const KNOWLEDGE: &[Need] = &[Need::Begin, Need::PeerPackets, Need::OwnPackets, Need::Order, Need::Time, Need::End];
 
 pub(super) static RULES: &[Rule] = &[
     Rule::must(
@@ -103,7 +101,6 @@ fn old_keys(about: &About<'_>, opened: &Opened<'_>) -> Checked {
     Broken::new(seen, "the new keys").at(begin(opened)).found()
 }
 
-// A packet of the peer with such keys, which the side answers, may be in the file a bit later.
 fn early_update(about: &About<'_>, opened: &Opened<'_>) -> Checked {
     let is_first = opened.updates() > 0 && about.own_half().updates() == 0;
     if !is_first || !is_unconfirmed(about.history, about.sender) {

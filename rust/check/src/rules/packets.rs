@@ -61,13 +61,14 @@ pub(super) static RULES: &[Rule] = &[
         "A packet number has enough bytes for twice its distance from the largest acknowledged one, or for all of it.",
         Check::Packet(number_length),
     )
-    .with(History::Whole, &[Need::Begin, Need::PeerPackets, Need::OwnPackets, Need::Order, Need::End]),
+    .with(History::Whole, &[Need::Begin, Need::PeerPackets, Need::OwnPackets, Need::Order, Need::Time, Need::End]),
     Rule::must(
         "after-close",
         "10.2.1",
         "After a CONNECTION_CLOSE its sender sends only packets with that frame.",
         Check::Done(after_close),
     )
+    .should()
     .with(History::Before, &[]),
     Rule::must(
         "after-drain",
@@ -83,7 +84,7 @@ pub(super) static RULES: &[Rule] = &[
         "After a Retry all Initial packets of the client have the Retry's token.",
         Check::Packet(initial_token),
     )
-    .with(History::Before, &[Need::Begin, Need::Time]),
+    .with(History::Whole, &[Need::Begin, Need::Time]),
     Rule::must(
         "token-kept",
         "8.1.3",
@@ -95,10 +96,10 @@ pub(super) static RULES: &[Rule] = &[
         "retry-version",
         "4.1",
         "After a Retry the client goes on with the Retry's version.",
-        Check::Done(retry_version),
+        Check::Packet(retry_version),
     )
     .of(9369)
-    .with(History::Before, &[Need::Begin]),
+    .with(History::Before, &[Need::Begin, Need::Time]),
     Rule::must(
         "retry-id",
         "17.2.5.1",
@@ -294,14 +295,10 @@ fn token_at(opened: &Opened<'_>) -> usize {
 fn initial_token(about: &About<'_>, opened: &Opened<'_>) -> Checked {
     let retry = retry_of(about, opened).filter(|_| opened.kind() == HeaderKind::Initial);
     let given = Token::of(opened.packet().token());
-    let Some(Retry { token, has_other_token, .. }) = retry.filter(|retry| retry.token != given) else {
-        return Ok(None);
-    };
-    if *has_other_token {
-        return Err(Need::Time);
-    }
+    let Some(Retry { token, id, .. }) = retry.filter(|retry| retry.token != given) else { return Ok(None) };
     let seen = if given.len == 0 { "no token".into() } else { format!("another token, of {} bytes", given.len) };
-    Broken::new(seen, format!("the token of the Retry, {} bytes", token.len)).at(token_at(opened)).found()
+    let broken = Broken::new(seen, format!("the token of the Retry, {} bytes", token.len)).at(token_at(opened));
+    broken.if_still(Claim::Token(*id)).found()
 }
 
 // A client that begins anew with another version may have no token for that.
@@ -315,8 +312,8 @@ fn token_kept(about: &About<'_>, opened: &Opened<'_>) -> Checked {
     Broken::new("no token", format!("one, as in packet {number}")).at(token_at(opened)).found()
 }
 
-// Once the server has answered, versions may change again (RFC 9368). An answer that isn't in the capture, or comes
-// late in it, shows by its acknowledgment.
+// Once the server has answered, versions may change again (RFC 9368). It answers only what the client sends to the
+// Retry's id, so the first such packet comes before any answer.
 fn retry_version(about: &About<'_>, opened: &Opened<'_>) -> Checked {
     let is_acknowledged = !about.peer_half().acknowledged[SpaceId::Initial as usize].is_empty();
     let is_next = about.peer().first_scid().is_none() && !is_acknowledged;
@@ -324,6 +321,11 @@ fn retry_version(about: &About<'_>, opened: &Opened<'_>) -> Checked {
     let version = opened.packet().header().version();
     if opened.kind() != HeaderKind::Initial || version == retry.version {
         return Ok(None);
+    }
+    let seen = &about.own_half().seen[SpaceId::Initial as usize];
+    let has_before = opened.number().checked_sub(1).is_none_or(|number| seen.contains(number));
+    if about.history.is_retried || !has_before {
+        return Err(Need::Time);
     }
     Broken::new(format!("version {version:#x}"), format!("that of the Retry, {:#x}", retry.version))
         .at(begin(opened) + 1)

@@ -104,11 +104,13 @@ fn version_information(_: &About<'_>, _: &Opened<'_>, list: &[u8]) -> Checked {
     }
 }
 
-// A client's message may be whole only with a packet of the version that the server has chosen.
+// A client's message may be whole only with a packet of the version that the server has chosen, and the server's answer
+// be late in the file.
 fn chosen_version(about: &About<'_>, opened: &Opened<'_>, list: &[u8]) -> Checked {
     let Some((chosen, _)) = versions_of(list).and_then(versions::read) else { return Ok(None) };
     let version = opened.packet().header().version();
-    let is_first = about.sender == Side::Client && about.history.original_version == Some(chosen);
+    let firsts = [about.history.first_version, about.history.original_version];
+    let is_first = about.sender == Side::Client && firsts.contains(&Some(chosen));
     if is_first || chosen == version || chosen == about.connection.version() {
         return Ok(None);
     }

@@ -17,6 +17,7 @@ const LIMIT: &[Need] = &[
     Need::OwnPackets,
     Need::NoEarlyData,
     Need::Order,
+    Need::Time,
     Need::End,
 ];
 

@@ -142,13 +142,13 @@ fn done() -> Vec<Case> {
     vec![
         broken(
             ("early-done", "server", "19.20"),
-            "The server sends HANDSHAKE_DONE before any Handshake packet of the client.",
+            "The server sends HANDSHAKE_DONE a second before any Handshake packet of the client.",
             |talk| {
                 let hello = talk.client_hello();
                 talk.send(Client, Initial, &hello).server_flight();
                 let spot = send(talk, Server, Short, HANDSHAKE_DONE, At::Payload(0..1));
-                talk.made.time += 20_000_000;
-                talk.client_flight().confirm().later();
+                talk.made.time += 1_000_000_000;
+                talk.client_flight().short(Client, &ack(0)).later();
                 spot
             },
         ),

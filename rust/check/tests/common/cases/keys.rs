@@ -131,7 +131,7 @@ fn too_early() -> Vec<Case> {
                 let spot = send(talk, Client, Short, PING, At::Datagram(0));
                 talk.made.time += SECOND;
                 talk.made.updates = [1, 1];
-                talk.confirm().later();
+                talk.short(Server, &ack(0)).confirm().later();
                 spot
             },
         )

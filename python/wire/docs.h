@@ -70,7 +70,12 @@
   "Sets the length in a long header to what follows it in the packet, in place.")
 #define DOC_write_header PyDoc_STR( \
   "write_header($module, packet_type, dcid=b'', scid=b'', token=b'', *, version=1, number=0, number_len=4, length_len=2, spin=False, key_phase=False, fixed_bit=True)\n--\n\n" \
-  "A header without protection. Its length is 0 until set_length.")
+  "A header without protection. The packet number is its end, and begins at\n" \
+  "len(header) - number_len. Its length is 0 until set_length. A Retry has no number; its\n" \
+  "token and integrity tag follow the header. Raises ValueError for a token of RETRY or\n" \
+  "ONE_RTT, and for a scid of ONE_RTT. Other arguments that a packet_type doesn't have are\n" \
+  "ignored, also a token of ZERO_RTT and HANDSHAKE: a stack may pass the same ones for all\n" \
+  "its long headers.")
 #define DOC_write_version_negotiation PyDoc_STR( \
   "write_version_negotiation($module, dcid, scid, versions, unused=0x40)\n--\n\n" \
   "A Version Negotiation packet (RFC 9000, section 17.2.1), with the unused bits of its\n" \

@@ -470,7 +470,12 @@ def write_header(
     key_phase: bool = False,
     fixed_bit: bool = True,
 ) -> bytes:
-    """A header without protection. Its length is 0 until set_length."""
+    """A header without protection. The packet number is its end, and begins at
+    len(header) - number_len. Its length is 0 until set_length. A Retry has no number; its
+    token and integrity tag follow the header. Raises ValueError for a token of RETRY or
+    ONE_RTT, and for a scid of ONE_RTT. Other arguments that a packet_type doesn't have are
+    ignored, also a token of ZERO_RTT and HANDSHAKE: a stack may pass the same ones for all
+    its long headers."""
 def write_version_negotiation(dcid: Buffer, scid: Buffer, versions: Iterable[int], unused: int = 0x40) -> bytes:
     """A Version Negotiation packet (RFC 9000, section 17.2.1), with the unused bits of its
     first byte."""

@@ -1,6 +1,6 @@
 # Made by scripts/make/tables from _wire.pyi.in and docs/formats.json: change nothing here.
 from collections.abc import Iterable, Iterator, Sequence
-from typing import Any, ClassVar, Optional, TypeVar, Union, final
+from typing import Any, ClassVar, Optional, TypeVar, Union, final, overload
 
 from ._fields import Raw
 from ._types import Buffer
@@ -247,8 +247,11 @@ class StreamsBlockedUni(Frame):
 class NewConnectionId(Frame):
     KIND: ClassVar[int]
     __match_args__ = ("sequence", "retire_prior_to", "connection_id", "reset_token")
+    @overload
+    def __init__(self, sequence: int, retire_prior_to: int, connection_id: Buffer, reset_token: Buffer) -> None: ...
+    @overload
     def __init__(
-        self, sequence: int = 0, retire_prior_to: int = 0, connection_id: Buffer = ..., reset_token: Buffer = ...
+        self, sequence: int = 0, retire_prior_to: int = 0, *, connection_id: Buffer, reset_token: Buffer
     ) -> None: ...
     @property
     def sequence(self) -> int: ...
@@ -271,7 +274,7 @@ class RetireConnectionId(Frame):
 class PathChallenge(Frame):
     KIND: ClassVar[int]
     __match_args__ = ("data",)
-    def __init__(self, data: Buffer = ...) -> None: ...
+    def __init__(self, data: Buffer = b"\0\0\0\0\0\0\0\0") -> None: ...
     @property
     def data(self) -> bytes: ...
 
@@ -279,7 +282,7 @@ class PathChallenge(Frame):
 class PathResponse(Frame):
     KIND: ClassVar[int]
     __match_args__ = ("data",)
-    def __init__(self, data: Buffer = ...) -> None: ...
+    def __init__(self, data: Buffer = b"\0\0\0\0\0\0\0\0") -> None: ...
     @property
     def data(self) -> bytes: ...
 

@@ -6,7 +6,8 @@
  * that can't be passed by name. */
 #define DOC_Frame_is_permitted_in PyDoc_STR( \
   "is_permitted_in($self, packet_type, /)\n--\n\n" \
-  "Whether packets of this type may carry it (RFC 9000, section 12.4, table 3).")
+  "Whether packets of this type may carry it (RFC 9000, section 12.4, table 3); False for a\n" \
+  "number that is no type of packet, which check_permitted rejects.")
 #define DOC_Frame_check_permitted PyDoc_STR( \
   "check_permitted($self, /, packet_type, sender, *, checks=0)\n--\n\n" \
   "Raises FrameError if packets of this type may not carry the frame (RFC 9000, section\n" \
@@ -24,7 +25,8 @@
   "skip($self, end, type, /)\n--\n\n" \
   "Passes over a frame of this type, which the library doesn't know and the caller read:\n" \
   "the next frame is the one at end, an offset in the payload. Use it after the\n" \
-  "FrameError that the frame raised; the frame begins at offset.")
+  "FrameError that the frame raised; the frame begins at offset. The type isn't compared\n" \
+  "with the bytes, and may be one that the library knows.")
 #define DOC_frames PyDoc_STR( \
   "frames($module, payload, /, *, at=0, checks=0)\n--\n\n" \
   "The frames of a payload from an offset on, each read when it is asked for. Offsets\n" \
@@ -56,7 +58,9 @@
   "PacketError, with the packets before it in its attribute packets.")
 #define DOC_read_packet PyDoc_STR( \
   "read_packet($module, datagram, cid_len, at=0, versions=None, *, checks=0)\n--\n\n" \
-  "The packet that begins at an offset of a datagram.")
+  "The packet that begins at an offset of a datagram. versions are those that are read, by\n" \
+  "default 1, its drafts 29 to 34 (0xff00001d to 0xff000022) and 2; a packet of another one\n" \
+  "is an UnknownVersion. Raises PacketError.")
 #define DOC_unprotect PyDoc_STR( \
   "unprotect($module, packet, number_at, mask, expected=0)\n--\n\n" \
   "The packet number, relative to the one that is expected next, and a copy of the header\n" \

@@ -69,7 +69,8 @@ class Frame:
     @property
     def is_flow_controlled(self) -> bool: ...
     def is_permitted_in(self, packet_type: int, /) -> bool:
-        """Whether packets of this type may carry it (RFC 9000, section 12.4, table 3)."""
+        """Whether packets of this type may carry it (RFC 9000, section 12.4, table 3); False for a
+        number that is no type of packet, which check_permitted rejects."""
     def check_permitted(self, packet_type: int, sender: int, *, checks: Checks = ...) -> None:
         """Raises FrameError if packets of this type may not carry the frame (RFC 9000, section
         12.4, table 3), or if that side may not send it (sections 19.7, 19.20) or not on
@@ -349,7 +350,8 @@ class FrameIterator(Iterator[Frame]):
     def skip(self, end: int, type: int, /) -> None:
         """Passes over a frame of this type, which the library doesn't know and the caller read:
         the next frame is the one at end, an offset in the payload. Use it after the
-        FrameError that the frame raised; the frame begins at offset."""
+        FrameError that the frame raised; the frame begins at offset. The type isn't compared
+        with the bytes, and may be one that the library knows."""
     def __next__(self) -> Frame: ...
 
 def frames(payload: Buffer, /, *, at: int = 0, checks: Checks = ...) -> FrameIterator:
@@ -450,7 +452,9 @@ def read_packets(
 def read_packet(
     datagram: Buffer, cid_len: int, at: int = 0, versions: Optional[Sequence[int]] = None, *, checks: Checks = ...
 ) -> Packet:
-    """The packet that begins at an offset of a datagram."""
+    """The packet that begins at an offset of a datagram. versions are those that are read, by
+    default 1, its drafts 29 to 34 (0xff00001d to 0xff000022) and 2; a packet of another one
+    is an UnknownVersion. Raises PacketError."""
 def unprotect(packet: Buffer, number_at: int, mask: Buffer, expected: int = 0) -> tuple[int, bytes]:
     """The packet number, relative to the one that is expected next, and a copy of the header
     without its protection, up to the end of that number (RFC 9001, section 5.4.1)."""

@@ -131,6 +131,21 @@ class Packets(unittest.TestCase):
             with self.subTest(i), self.assertRaises(kind):
                 call()
 
+    def test_bytes_that_are_not_contiguous_are_rejected(self):
+        data = memoryview(bytes(64))[::2]
+        calls = [
+            lambda: q.read_frames(data),
+            lambda: q.read_packets(data, 0),
+            lambda: list(q.packets(data, 0)),
+            lambda: list(q.parameters(data)),
+            lambda: q.TransportParameters.read(q.Side.CLIENT, data),
+            lambda: q.Stream(data=data),
+            lambda: q.write_header(q.PacketType.INITIAL, data),
+        ]
+        for i, call in enumerate(calls):
+            with self.subTest(i), self.assertRaises((BufferError, TypeError)):
+                call()
+
     def test_a_header_without_a_packet_type_is_named(self):
         for kind in (q.PacketType.VERSION_NEGOTIATION, q.PacketType.UNKNOWN_VERSION, 9):
             with self.subTest(kind), self.assertRaisesRegex(ValueError, "^packet_type must be INITIAL, .* or ONE_RTT$"):

@@ -58,7 +58,8 @@ class Examples(unittest.TestCase):
                     with self.assertRaises(ValueError):
                         call()
         for version in (0xFF00001C, 0xFF000023):
-            self.assertIsInstance(q.read_packet(initial[:1] + version.to_bytes(4, "big") + initial[5:], 0), q.UnknownVersion)
+            other = initial[:1] + version.to_bytes(4, "big") + initial[5:]
+            self.assertIsInstance(q.read_packet(other, 0), q.UnknownVersion)
 
     def test_numbers_are_no_bytes(self):
         client, _ = ciphers.initial_keys(q.Version.V1, DCID)

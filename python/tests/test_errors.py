@@ -255,6 +255,7 @@ class Errors(unittest.TestCase):
             (b"\x00", [], type(None)),
             (one_rtt[:2], [], type(None)),
         ]
+        kept = ["kind", "reason", "why", "offset", "field", "field_offset", "fields", "code", "section"]
         for datagram, before, last in rows:
             error = rejected(q.read_packets, datagram, 2)
             self.assertEqual(([type(one) for one in error.packets], type(error.packet)), (before, last))
@@ -263,7 +264,7 @@ class Errors(unittest.TestCase):
                     other = make(error)
                     self.assertEqual((type(other), str(other), other.packets, other.packet),
                                      (q.PacketError, str(error), None, None))  # fmt: skip
-                    for name in ("kind", "reason", "why", "offset", "field", "field_offset", "fields", "code", "section"):
+                    for name in kept:
                         self.assertEqual(getattr(other, name), getattr(error, name), name)
 
     def test_every_error_can_be_pickled(self):

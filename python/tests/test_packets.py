@@ -170,12 +170,12 @@ class Packets(unittest.TestCase):
             self.assertEqual(header, q.write_header(packet_type, CID, b"ab"), packet_type)
 
     def test_what_has_no_protection_is_not_sealed(self):
-        kind = q.PacketType
+        kind, unprotected, token = q.PacketType, "^packet_type must be .* no protection$", "^token: only an Initial"
         for packet_type in (kind.RETRY, kind.VERSION_NEGOTIATION):
-            with self.subTest(packet_type), self.assertRaisesRegex(ValueError, "^packet_type must be .* no protection$"):
+            with self.subTest(packet_type), self.assertRaisesRegex(ValueError, unprotected):
                 seal_packet(packet_type, b"\x01", NoCipher(), dcid=b"abcd", scid=b"efgh")
         for packet_type in (kind.ZERO_RTT, kind.HANDSHAKE, kind.ONE_RTT):
-            with self.subTest(packet_type), self.assertRaisesRegex(ValueError, "^token: only an Initial packet has one$"):
+            with self.subTest(packet_type), self.assertRaisesRegex(ValueError, token):
                 seal_packet(packet_type, b"\x01", NoCipher(), dcid=CID, token=b"token")
         sealed = seal_packet(kind.INITIAL, b"\x01", NoCipher(), dcid=CID, token=b"token")
         self.assertEqual(q.read_packet(sealed, 0).token, b"token")

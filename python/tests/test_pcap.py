@@ -50,7 +50,8 @@ class Files(unittest.TestCase):
         block = struct.pack("<IIIIIII", 6, size, 0, 0, 0, len(PACKET), len(PACKET)) + PACKET + bytes(1)
         block += struct.pack("<I", size)
         for name, head, one in (("pcap", PCAP, record), ("pcapng", PCAPNG, block)):
-            self.assertEqual([bytes(it.data) for it in pcap.datagrams(io.BytesIO(head + one + one))], [b"abc"] * 2, name)
+            whole = pcap.datagrams(io.BytesIO(head + one + one))
+            self.assertEqual([bytes(it.data) for it in whole], [b"abc"] * 2, name)
             for cut in range(1, len(one)):
                 read = []
                 with self.subTest(name, cut=cut):

@@ -6,8 +6,9 @@
  * that can't be passed by name. */
 #define DOC_Frame_is_permitted_in PyDoc_STR( \
   "is_permitted_in($self, packet_type, /)\n--\n\n" \
-  "Whether packets of this type may carry it (RFC 9000, section 12.4, table 3); False for a\n" \
-  "number that is no type of packet, which check_permitted rejects.")
+  "Whether packets of this type may carry it (RFC 9000, section 12.4, table 3). False for\n" \
+  "numbers other than INITIAL, ZERO_RTT, HANDSHAKE and ONE_RTT of PacketType, which\n" \
+  "check_permitted rejects.")
 #define DOC_Frame_check_permitted PyDoc_STR( \
   "check_permitted($self, /, packet_type, sender, *, checks=0)\n--\n\n" \
   "Raises FrameError if packets of this type may not carry the frame (RFC 9000, section\n" \
@@ -54,8 +55,9 @@
   "if the packet is too short or has no packet number.")
 #define DOC_read_packets PyDoc_STR( \
   "read_packets($module, datagram, cid_len, versions=None, *, checks=0)\n--\n\n" \
-  "The packets of a datagram as a list. Ids in short headers have cid_len bytes. Raises\n" \
-  "PacketError, with the packets before it in its attribute packets.")
+  "The packets of a datagram as a list. Ids in short headers have cid_len bytes. versions\n" \
+  "are as in read_packet. Raises PacketError, with the packets before it in its attribute\n" \
+  "packets.")
 #define DOC_read_packet PyDoc_STR( \
   "read_packet($module, datagram, cid_len, at=0, versions=None, *, checks=0)\n--\n\n" \
   "The packet that begins at an offset of a datagram. versions are those that are read, by\n" \

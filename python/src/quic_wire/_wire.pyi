@@ -69,8 +69,9 @@ class Frame:
     @property
     def is_flow_controlled(self) -> bool: ...
     def is_permitted_in(self, packet_type: int, /) -> bool:
-        """Whether packets of this type may carry it (RFC 9000, section 12.4, table 3); False for a
-        number that is no type of packet, which check_permitted rejects."""
+        """Whether packets of this type may carry it (RFC 9000, section 12.4, table 3). False for
+        numbers other than INITIAL, ZERO_RTT, HANDSHAKE and ONE_RTT of PacketType, which
+        check_permitted rejects."""
     def check_permitted(self, packet_type: int, sender: int, *, checks: Checks = ...) -> None:
         """Raises FrameError if packets of this type may not carry the frame (RFC 9000, section
         12.4, table 3), or if that side may not send it (sections 19.7, 19.20) or not on
@@ -447,8 +448,9 @@ class UnknownVersion(Packet):
 def read_packets(
     datagram: Buffer, cid_len: int, versions: Optional[Sequence[int]] = None, *, checks: Checks = ...
 ) -> list[Packet]:
-    """The packets of a datagram as a list. Ids in short headers have cid_len bytes. Raises
-    PacketError, with the packets before it in its attribute packets."""
+    """The packets of a datagram as a list. Ids in short headers have cid_len bytes. versions
+    are as in read_packet. Raises PacketError, with the packets before it in its attribute
+    packets."""
 def read_packet(
     datagram: Buffer, cid_len: int, at: int = 0, versions: Optional[Sequence[int]] = None, *, checks: Checks = ...
 ) -> Packet:

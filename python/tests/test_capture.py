@@ -1,5 +1,6 @@
 """What is read from a capture, compared with what c/examples/capture.c prints of it."""
 
+import io
 import pathlib
 import unittest
 
@@ -48,6 +49,15 @@ class Capture(unittest.TestCase):
         printed = [line for one in found for line in lines(one)]
         self.assertEqual(printed, (FOLDER / "capture.txt").read_text().splitlines())
         self.assertEqual([one.error for one in found], [None] * len(found))
+
+    def test_packets_before_a_cut_are_read(self):
+        file, found = FOLDER / "capture.pcap", []
+        with self.assertRaisesRegex(capture.CaptureError, "cut off"):
+            for one in capture.packets(io.BytesIO(file.read_bytes()[:-5])):
+                found.append(one)
+        every = list(capture.packets(file))
+        last = every[-1].datagram.frame
+        self.assertEqual(found, [one for one in every if one.datagram.frame < last])
 
 
 if __name__ == "__main__":

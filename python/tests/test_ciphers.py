@@ -40,6 +40,27 @@ class Examples(unittest.TestCase):
         )
         self.assertNotIn(client.key.hex(), repr(client))
 
+    def test_drafts_that_are_read_have_no_keys(self):
+        for draft in range(29, 35):
+            version = 0xFF000000 + draft
+            initial = bytearray(q.write_header(q.PacketType.INITIAL, DCID, version=version) + bytes(20))
+            q.set_length(initial, len(initial) - 24)
+            packet = q.read_packet(initial, 0)
+            calls = [
+                lambda: q.Version(packet.version),
+                lambda: q.constants(packet.version),
+                lambda: ciphers.initial_keys(packet.version, packet.dcid),
+                lambda: ciphers.retry_integrity_tag(packet.version, DCID, b""),
+            ]
+            for i, call in enumerate(calls):
+                with self.subTest(draft, call=i):
+                    self.assertEqual((type(packet), packet.version), (q.Initial, version))
+                    with self.assertRaises(ValueError):
+                        call()
+        for version in (0xFF00001C, 0xFF000023):
+            other = initial[:1] + version.to_bytes(4, "big") + initial[5:]
+            self.assertIsInstance(q.read_packet(other, 0), q.UnknownVersion)
+
     def test_numbers_are_no_bytes(self):
         client, _ = ciphers.initial_keys(q.Version.V1, DCID)
         calls = [

@@ -244,6 +244,49 @@ class Errors(unittest.TestCase):
         for other in (copy.copy(error), pickle.loads(pickle.dumps(error))):
             self.assertEqual((str(other), other.frame_type), (str(error), 0x10))
 
+    def test_a_copied_error_has_no_packets(self):
+        one_rtt = q.write_header(q.PacketType.ONE_RTT, b"ab")
+        handshake = q.write_header(q.PacketType.HANDSHAKE, b"ab") + bytes(16)
+        cut_off = bytearray(handshake)
+        q.set_length(cut_off, len(handshake) - 20)
+        rows = [
+            (bytes(cut_off) + b"\xc0\0\0\0\1\xff", [q.Handshake], type(None)),
+            (bytes(cut_off[:-1]), [], q.Handshake),
+            (b"\x00", [], type(None)),
+            (one_rtt[:2], [], type(None)),
+        ]
+        kept = ["kind", "reason", "why", "offset", "field", "field_offset", "fields", "code", "section"]
+        for datagram, before, last in rows:
+            error = rejected(q.read_packets, datagram, 2)
+            self.assertEqual(([type(one) for one in error.packets], type(error.packet)), (before, last))
+            for make in (copy.copy, copy.deepcopy, lambda one: pickle.loads(pickle.dumps(one))):
+                with self.subTest(datagram, make=make):
+                    other = make(error)
+                    self.assertEqual((type(other), str(other), other.packets, other.packet),
+                                     (q.PacketError, str(error), None, None))  # fmt: skip
+                    for name in kept:
+                        self.assertEqual(getattr(other, name), getattr(error, name), name)
+
+    def test_every_error_can_be_pickled(self):
+        calls = [
+            (q.read_frames, b""),
+            (q.read_frames, bytes.fromhex("0106000561")),
+            (q.read_frames, bytes.fromhex("06000161" + "180102")),
+            (q.frame_fields, bytes.fromhex("10")),
+            (q.packet_fields, b"\xc0\0\0\0\1\xff", 0),
+            (q.TransportParameters.read, q.Side.SERVER, b"\0\0"),
+            (q.TransportParameters.read, q.Side.CLIENT, memoryview(bytes.fromhex("03024064"))),
+            (q.find_parameter, bytes.fromhex("0401"), 5),
+            (q.parameter_fields, bytes.fromhex("0401")),
+            (q.read_varint, b""),
+        ]
+        for call, *arguments in calls:
+            with self.subTest(call, arguments=arguments):
+                error = rejected(call, *arguments)
+                for other in (copy.deepcopy(error), pickle.loads(pickle.dumps(error))):
+                    self.assertEqual((type(other), str(other)), (type(error), str(error)))
+                    self.assertEqual(vars(other), vars(error))
+
     def test_a_frame_that_is_valid_by_now_has_its_type_at_fault(self):
         # Between reading and the message another thread may change the bytes: here to a PING at 3.
         read = _fields.Read(1, [(3, 4, 0x01)], 4, 0, 0)

@@ -69,6 +69,18 @@ class Extension(unittest.TestCase):
                 found.skip(end, 0x01)
                 self.assertEqual([frame.begin for frame in found], list(range(end, 6)))
 
+    def test_the_type_is_not_compared(self):
+        for frame_type in (RESET_STREAM_AT, 0x01, 0x06):
+            with self.subTest(frame_type):
+                found = q.frames(bytes.fromhex("01" + "2404010805" + "01" + "06"))
+                next(found)
+                with self.assertRaises(q.FrameError):
+                    next(found)
+                found.skip(6, frame_type)
+                self.assertEqual(next(found).begin, 6)
+                with self.assertRaisesRegex(q.FrameError, "^unexpected end in CRYPTO at 7, Offset at 8"):
+                    next(found)
+
     def test_another_iterator_goes_on(self):
         payload = bytes.fromhex("01" + "2404010805" + "0801")
         for read, end in ((q.read_frames, 6), (lambda data, at: list(q.frames(data, at=at)), 6)):

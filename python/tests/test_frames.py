@@ -104,6 +104,14 @@ class Frames(unittest.TestCase):
         for frame, _, _ in ROWS:
             self.assertEqual(list(inspect.signature(type(frame)).parameters), list(frame.__match_args__))
             self.assertTrue(type(frame).__doc__.strip())
+        for kind in (q.PathChallenge, q.PathResponse):
+            default = inspect.signature(kind).parameters["data"].default
+            self.assertEqual((default, kind().data), (bytes(8), bytes(8)), kind)
+        # Python has no signature for fields that must be given after others that needn't.
+        self.assertIn("connection_id and reset_token must be given", q.NewConnectionId.__doc__)
+        for given in ({}, {"connection_id": b"a"}, {"reset_token": bytes(16)}):
+            with self.subTest(given=given), self.assertRaisesRegex(TypeError, "needs connection_id and reset_token"):
+                q.NewConnectionId(**given)
         self.assertEqual(tuple(inspect.signature(q.TransportParameters).parameters), q.TransportParameters.__match_args__)
 
     def test_ids_tokens_and_reasons_are_bytes(self):

@@ -64,6 +64,12 @@ def reject_all():
     rejected(q.unprotect, bytes(9), 8, bytes(5))
     rejected(q.protect, bytes(9), 1, bytes(5))
     rejected(q.write_header, 0, bytes(21))
+    rejected(q.write_header, 0, bytes(21), b"", b"token")
+    rejected(q.write_header, q.PacketType.RETRY, b"a", b"b", b"token")
+    rejected(q.write_header, q.PacketType.ONE_RTT, b"a", b"b")
+    rejected(q.write_version_negotiation, bytes(256), b"", [1])
+    rejected(q.set_length, bytearray(9), 1)
+    rejected(q.write_packet_number, 1, 5)
     rejected(q.read_varint, b"")
     rejected(q.TransportParameters, stateless_reset_token=b"1")
 

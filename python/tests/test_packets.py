@@ -8,6 +8,21 @@ from quic_wire.protection import open_packet, seal_packet
 CID = bytes.fromhex("8394c8f03e515708")
 
 
+class NoCipher:
+    """Keys that only append a tag."""
+
+    tag_len = 16
+
+    def mask(self, sample):
+        return bytes(5)
+
+    def open(self, number, header, payload):
+        return payload[:-16]
+
+    def seal(self, number, header, payload):
+        return payload + bytes(16)
+
+
 class Packets(unittest.TestCase):
     def test_each_packet_of_a_datagram_is_read(self):
         initial = q.write_header(q.PacketType.INITIAL, CID, b"ab", b"token", number=5, number_len=2)
@@ -116,10 +131,85 @@ class Packets(unittest.TestCase):
             with self.subTest(i), self.assertRaises(kind):
                 call()
 
+    def test_bytes_that_are_not_contiguous_are_rejected(self):
+        data = memoryview(bytes(64))[::2]
+        calls = [
+            lambda: q.read_frames(data),
+            lambda: q.read_packets(data, 0),
+            lambda: list(q.packets(data, 0)),
+            lambda: list(q.parameters(data)),
+            lambda: q.TransportParameters.read(q.Side.CLIENT, data),
+            lambda: q.Stream(data=data),
+            lambda: q.write_header(q.PacketType.INITIAL, data),
+        ]
+        for i, call in enumerate(calls):
+            with self.subTest(i), self.assertRaises((BufferError, TypeError)):
+                call()
+
     def test_a_header_without_a_packet_type_is_named(self):
         for kind in (q.PacketType.VERSION_NEGOTIATION, q.PacketType.UNKNOWN_VERSION, 9):
             with self.subTest(kind), self.assertRaisesRegex(ValueError, "^packet_type must be INITIAL, .* or ONE_RTT$"):
                 q.write_header(kind, CID)
+
+    def test_bytes_that_a_header_would_lose_are_rejected(self):
+        kind = q.PacketType
+        rows = [
+            ("^token: a Retry's token and integrity tag follow its header", kind.RETRY, {"token": b"token"}),
+            ("^token: a short header has none$", kind.ONE_RTT, {"token": b"token"}),
+            ("^scid: a short header has none$", kind.ONE_RTT, {"scid": b"ab"}),
+        ]
+        for text, packet_type, given in rows:
+            with self.subTest(packet_type, given=given):
+                with self.assertRaisesRegex(ValueError, text):
+                    q.write_header(packet_type, CID, **given)
+                empty = {name: b"" for name in given}
+                self.assertEqual(q.write_header(packet_type, CID, **empty), q.write_header(packet_type, CID))
+        # aioquic passes a token for each of its long headers.
+        for packet_type in (kind.ZERO_RTT, kind.HANDSHAKE):
+            header = q.write_header(packet_type, CID, b"ab", b"token")
+            self.assertEqual(header, q.write_header(packet_type, CID, b"ab"), packet_type)
+
+    def test_what_has_no_protection_is_not_sealed(self):
+        kind, unprotected, token = q.PacketType, "^packet_type must be .* no protection$", "^token: only an Initial"
+        for packet_type in (kind.RETRY, kind.VERSION_NEGOTIATION):
+            with self.subTest(packet_type), self.assertRaisesRegex(ValueError, unprotected):
+                seal_packet(packet_type, b"\x01", NoCipher(), dcid=b"abcd", scid=b"efgh")
+        for packet_type in (kind.ZERO_RTT, kind.HANDSHAKE, kind.ONE_RTT):
+            with self.subTest(packet_type), self.assertRaisesRegex(ValueError, token):
+                seal_packet(packet_type, b"\x01", NoCipher(), dcid=CID, token=b"token")
+        sealed = seal_packet(kind.INITIAL, b"\x01", NoCipher(), dcid=CID, token=b"token")
+        self.assertEqual(q.read_packet(sealed, 0).token, b"token")
+
+    def test_a_wrong_length_is_named(self):
+        initial, one_rtt = q.PacketType.INITIAL, q.PacketType.ONE_RTT
+        rows = [
+            ("dcid must have at most 20 bytes", lambda: q.write_header(initial, bytes(21))),
+            ("scid must have at most 20 bytes", lambda: q.write_header(initial, CID, bytes(21), b"token")),
+            ("dcid must have at most 20 bytes", lambda: q.write_header(one_rtt, bytes(21))),
+            ("number_len must be from 1 to 4", lambda: q.write_header(initial, CID, number_len=0)),
+            ("number_len must be from 1 to 4", lambda: q.write_header(one_rtt, CID, number_len=5)),
+            ("length_len must be 1, 2, 4 or 8", lambda: q.write_header(initial, CID, length_len=3)),
+            ("version must not be 0", lambda: q.write_header(initial, CID, version=0)),
+            ("length_len must be 1, 2, 4 or 8", lambda: q.set_length(bytearray(9), 4, 3)),
+            ("number_at must be from 0 to 9", lambda: q.set_length(bytearray(9), 10)),
+            ("number_at must be from 0 to 9", lambda: q.set_length(bytearray(9), -1)),
+            ("length_len of 2 doesn't fit before number_at of 1", lambda: q.set_length(bytearray(9), 1)),
+            ("length_len of 1 is too small for a length of 64", lambda: q.set_length(bytearray(65), 1, 1)),
+            ("length_len of 2 is too small for a length of 16404",
+             lambda: seal_packet(initial, bytes(16384), NoCipher(), dcid=CID)),
+            ("dcid must have at most 255 bytes", lambda: q.write_version_negotiation(bytes(256), b"", [])),
+            ("scid must have at most 255 bytes", lambda: q.write_version_negotiation(b"", bytes(256), [])),
+            ("cid_len must be at most 20", lambda: q.read_packets(b"\x40", 21)),
+            ("cid_len must be at most 20", lambda: q.packet_fields(b"\x40", 21)),
+            ("length must be from 1 to 4", lambda: q.write_packet_number(1, 5)),
+            ("length must be from 1 to 4", lambda: q.read_packet_number(bytes(9), 5)),
+            ("length must be from 1 to 4", lambda: q.expand_packet_number(1, 0, 1)),
+        ]  # fmt: skip
+        for text, call in rows:
+            with self.subTest(text):
+                with self.assertRaises(ValueError) as caught:
+                    call()
+                self.assertEqual(str(caught.exception), text)
 
     # RFC 9001, appendix A.5: the header of a short packet, with its sample and mask.
     def test_protection_is_removed_and_applied(self):

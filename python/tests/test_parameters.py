@@ -6,6 +6,7 @@ import pickle
 import unittest
 
 import quic_wire as q
+from quic_wire.parameters import _of_dict
 
 ADDRESS = q.PreferredAddress(
     b"12345678",
@@ -42,7 +43,35 @@ ROWS = [
 ]
 
 
+class Named(q.TransportParameters):
+    """Parameters with an attribute."""
+
+    def __init__(self, name="", **values):
+        self.name = name
+
+    def __new__(cls, name="", **values):
+        return super().__new__(cls, **values)
+
+
+class Slotted(q.TransportParameters):
+    """Parameters with nothing else."""
+
+    __slots__ = ()
+
+
 class Parameters(unittest.TestCase):
+    def test_a_copy_is_of_the_same_class(self):
+        data = bytes.fromhex("0b0119" "040105")
+        named = Named("server", initial_max_data=5, max_ack_delay=25)
+        for made in (named, Slotted(initial_max_data=5), Slotted.read(q.Side.CLIENT, data), q.TransportParameters()):
+            for make in (copy.copy, copy.deepcopy, lambda one: pickle.loads(pickle.dumps(one))):
+                with self.subTest(type(made), make=make):
+                    other = make(made)
+                    self.assertEqual((type(other), other, other.present), (type(made), made, made.present))
+                    self.assertEqual(getattr(other, "name", None), getattr(made, "name", None))
+        # As 0.1.0 pickled them.
+        self.assertEqual(_of_dict({"initial_max_data": 5}), q.TransportParameters(initial_max_data=5))
+
     def test_each_parameter_is_written_and_read(self):
         self.assertEqual(q.TransportParameters.__match_args__, tuple(name for name, _, _ in ROWS))
         for name, value, digits in ROWS:

@@ -44,6 +44,22 @@ class Files(unittest.TestCase):
                 list(pcap.datagrams(file))
             self.assertLessEqual(file.most, PIECE)
 
+    def test_what_is_before_a_cut_is_read(self):
+        record = struct.pack("<IIII", 1, 0, len(PACKET), len(PACKET)) + PACKET
+        size = 32 + len(PACKET) + 1
+        block = struct.pack("<IIIIIII", 6, size, 0, 0, 0, len(PACKET), len(PACKET)) + PACKET + bytes(1)
+        block += struct.pack("<I", size)
+        for name, head, one in (("pcap", PCAP, record), ("pcapng", PCAPNG, block)):
+            whole = pcap.datagrams(io.BytesIO(head + one + one))
+            self.assertEqual([bytes(it.data) for it in whole], [b"abc"] * 2, name)
+            for cut in range(1, len(one)):
+                read = []
+                with self.subTest(name, cut=cut):
+                    with self.assertRaisesRegex(pcap.CaptureError, "cut off"):
+                        for it in pcap.datagrams(io.BytesIO(head + one + one[:-cut])):
+                            read.append(bytes(it.data))
+                    self.assertEqual(read, [b"abc"])
+
     def test_files_that_return_less(self):
         data = PCAP + struct.pack("<IIII", 1, 0, len(PACKET), len(PACKET)) + PACKET
         for make in (io.BytesIO, Slow):

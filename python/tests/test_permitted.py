@@ -59,6 +59,13 @@ class Permitted(unittest.TestCase):
                             error = self.rejected(call, PV, "12.4", frame.type)
                             self.assertEqual(error.reason, "not permitted in this packet")
 
+    def test_numbers_that_are_no_type_of_packet(self):
+        for number in (-5, P.RETRY, P.VERSION_NEGOTIATION, P.UNKNOWN_VERSION, 7, 99, 1 << 70):
+            with self.subTest(number):
+                self.assertIs(q.Ping().is_permitted_in(number), False)
+                with self.assertRaisesRegex(ValueError, "^packet_type must be INITIAL, .* of PacketType$"):
+                    q.Ping().check_permitted(number, CLIENT)
+
     def test_only_servers_send_two_frames(self):
         for frame, _ in TABLE:
             section = {q.NewToken: "19.7", q.HandshakeDone: "19.20"}.get(type(frame))

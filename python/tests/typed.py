@@ -88,5 +88,18 @@ def present(read: q.TransportParameters) -> frozenset[str]:
     return read.present & set(read.as_dict(present=True))
 
 
+def written(cid: bytes, token: bytes) -> bytes:
+    ids = [q.NewConnectionId(1, 0, cid, token), q.NewConnectionId(2, connection_id=cid, reset_token=token)]
+    return q.write_frames([*ids, q.PathChallenge(), q.PathResponse(b"12345678")])
+
+
+def rejected(cid: bytes) -> list[q.Frame]:
+    return [
+        q.NewConnectionId(),  # type: ignore[call-overload]
+        q.NewConnectionId(1, 0),  # type: ignore[call-overload]
+        q.NewConnectionId(connection_id=cid),  # type: ignore[call-overload]
+    ]
+
+
 def acknowledged_by(ack: q.Ack) -> q.RangeSet:
     return q.RangeSet(ack)

@@ -177,6 +177,14 @@ int wire_uint8(PyObject *value, const char *name, uint8_t *out) {
   return 0;
 }
 
+int wire_cid_len(PyObject *value, uint32_t *out) {
+  if (wire_uint32(value, "cid_len", out) < 0)
+    return -1;
+  if (*out <= MOST_CID)
+    return 0;
+  return wire_fail(PyExc_ValueError, "cid_len must be at most %d", MOST_CID);
+}
+
 int wire_index(PyObject *value, const char *name, Py_ssize_t *out) {
   if (!PyLong_Check(value) && !PyIndex_Check(value))
     return wire_fail(PyExc_TypeError, "%s must be an int", name);

@@ -98,7 +98,7 @@ static PyObject *read_from(wire_state *state, const wire_reader *how,
 /* The arguments that say how packets are read: -1 with an exception. */
 static int parse(wire_reader *how, PyObject *cid_len, PyObject *versions,
                  PyObject *checks) {
-  if (wire_uint32(cid_len, "cid_len", &how->cid_len) < 0 ||
+  if (wire_cid_len(cid_len, &how->cid_len) < 0 ||
       wire_checks(checks, &how->flags) < 0)
     return -1;
   return wire_set_versions(how, versions);

@@ -6,7 +6,9 @@
  * that can't be passed by name. */
 #define DOC_Frame_is_permitted_in PyDoc_STR( \
   "is_permitted_in($self, packet_type, /)\n--\n\n" \
-  "Whether packets of this type may carry it (RFC 9000, section 12.4, table 3).")
+  "Whether packets of this type may carry it (RFC 9000, section 12.4, table 3). False for\n" \
+  "numbers other than INITIAL, ZERO_RTT, HANDSHAKE and ONE_RTT of PacketType, which\n" \
+  "check_permitted rejects.")
 #define DOC_Frame_check_permitted PyDoc_STR( \
   "check_permitted($self, /, packet_type, sender, *, checks=0)\n--\n\n" \
   "Raises FrameError if packets of this type may not carry the frame (RFC 9000, section\n" \
@@ -24,7 +26,8 @@
   "skip($self, end, type, /)\n--\n\n" \
   "Passes over a frame of this type, which the library doesn't know and the caller read:\n" \
   "the next frame is the one at end, an offset in the payload. Use it after the\n" \
-  "FrameError that the frame raised; the frame begins at offset.")
+  "FrameError that the frame raised; the frame begins at offset. The type isn't compared\n" \
+  "with the bytes, and may be one that the library knows.")
 #define DOC_frames PyDoc_STR( \
   "frames($module, payload, /, *, at=0, checks=0)\n--\n\n" \
   "The frames of a payload from an offset on, each read when it is asked for. Offsets\n" \
@@ -52,11 +55,14 @@
   "if the packet is too short or has no packet number.")
 #define DOC_read_packets PyDoc_STR( \
   "read_packets($module, datagram, cid_len, versions=None, *, checks=0)\n--\n\n" \
-  "The packets of a datagram as a list. Ids in short headers have cid_len bytes. Raises\n" \
-  "PacketError, with the packets before it in its attribute packets.")
+  "The packets of a datagram as a list. Ids in short headers have cid_len bytes. versions\n" \
+  "are as in read_packet. Raises PacketError, with the packets before it in its attribute\n" \
+  "packets.")
 #define DOC_read_packet PyDoc_STR( \
   "read_packet($module, datagram, cid_len, at=0, versions=None, *, checks=0)\n--\n\n" \
-  "The packet that begins at an offset of a datagram.")
+  "The packet that begins at an offset of a datagram. versions are those that are read, by\n" \
+  "default 1, its drafts 29 to 34 (0xff00001d to 0xff000022) and 2; a packet of another one\n" \
+  "is an UnknownVersion. Raises PacketError.")
 #define DOC_unprotect PyDoc_STR( \
   "unprotect($module, packet, number_at, mask, expected=0)\n--\n\n" \
   "The packet number, relative to the one that is expected next, and a copy of the header\n" \
@@ -70,7 +76,12 @@
   "Sets the length in a long header to what follows it in the packet, in place.")
 #define DOC_write_header PyDoc_STR( \
   "write_header($module, packet_type, dcid=b'', scid=b'', token=b'', *, version=1, number=0, number_len=4, length_len=2, spin=False, key_phase=False, fixed_bit=True)\n--\n\n" \
-  "A header without protection. Its length is 0 until set_length.")
+  "A header without protection. The packet number is its end, and begins at\n" \
+  "len(header) - number_len. Its length is 0 until set_length. A Retry has no number; its\n" \
+  "token and integrity tag follow the header. Raises ValueError for a token of RETRY or\n" \
+  "ONE_RTT, and for a scid of ONE_RTT. Other arguments that a packet_type doesn't have are\n" \
+  "ignored, also a token of ZERO_RTT and HANDSHAKE: a stack may pass the same ones for all\n" \
+  "its long headers.")
 #define DOC_write_version_negotiation PyDoc_STR( \
   "write_version_negotiation($module, dcid, scid, versions, unused=0x40)\n--\n\n" \
   "A Version Negotiation packet (RFC 9000, section 17.2.1), with the unused bits of its\n" \

@@ -90,7 +90,7 @@ static PyObject *packet_fields(PyObject *Py_UNUSED(module), PyObject *args) {
   wire_reader how;
   if (!PyArg_UnpackTuple(args, "packet_fields", 5, 5, &datagram, &cid_len, &at,
                          &versions, &checks) ||
-      wire_uint32(cid_len, "cid_len", &how.cid_len) < 0 ||
+      wire_cid_len(cid_len, &how.cid_len) < 0 ||
       wire_checks(checks, &how.flags) < 0 ||
       wire_set_versions(&how, versions) < 0)
     return NULL;

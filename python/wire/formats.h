@@ -131,7 +131,7 @@ FRAME_KIND(STREAMS_BLOCKED_UNI, "StreamsBlockedUni",
      "StreamsBlockedUni(limit=0)\n--\n\nSTREAMS_BLOCKED of unidirectional streams (RFC 9000, section 19.14).",
      FIELD("limit", number, 1, "Maximum Streams"))
 FRAME_KIND(NEW_CONNECTION_ID, "NewConnectionId",
-     "NewConnectionId(sequence=0, retire_prior_to=0, connection_id=..., reset_token=...)\n--\n\nNEW_CONNECTION_ID (RFC 9000, section 19.15).",
+     "NewConnectionId(sequence=0, retire_prior_to=0, connection_id=..., reset_token=...)\n--\n\nNEW_CONNECTION_ID (RFC 9000, section 19.15). connection_id and reset_token must be given.",
      FIELD("sequence", number, 0, "Sequence Number")
      FIELD("retire_prior_to", number, 1, "Retire Prior To, sequence number")
      FIELD("connection_id", bytes, 0, "Connection ID, 1 to 20 bytes")
@@ -140,10 +140,10 @@ FRAME_KIND(RETIRE_CONNECTION_ID, "RetireConnectionId",
      "RetireConnectionId(sequence=0)\n--\n\nRETIRE_CONNECTION_ID (RFC 9000, section 19.16).",
      FIELD("sequence", number, 0, "Sequence Number"))
 FRAME_KIND(PATH_CHALLENGE, "PathChallenge",
-     "PathChallenge(data=...)\n--\n\nPATH_CHALLENGE (RFC 9000, section 19.17).",
+     "PathChallenge(data=b'\\0\\0\\0\\0\\0\\0\\0\\0')\n--\n\nPATH_CHALLENGE (RFC 9000, section 19.17).",
      FIELD("data", path, 0, "Data, 8 bytes"))
 FRAME_KIND(PATH_RESPONSE, "PathResponse",
-     "PathResponse(data=...)\n--\n\nPATH_RESPONSE (RFC 9000, section 19.18).",
+     "PathResponse(data=b'\\0\\0\\0\\0\\0\\0\\0\\0')\n--\n\nPATH_RESPONSE (RFC 9000, section 19.18).",
      FIELD("data", path, 0, "Data, 8 bytes"))
 FRAME_KIND(CONNECTION_CLOSE, "ConnectionClose",
      "ConnectionClose(error_code=0, frame_type=0, reason=b'')\n--\n\nCONNECTION_CLOSE of the transport, 0x1c (RFC 9000, section 19.19).",

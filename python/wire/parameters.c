@@ -346,19 +346,6 @@ static PyObject *parameters_as_dict(PyObject *self, PyObject *const *args,
   return is_true < 0 ? NULL : dict_of(self, is_true ? PRESENT : ALL);
 }
 
-/* By the names that were given, so that they are given again. */
-static PyObject *parameters_reduce(PyObject *self,
-                                   PyObject *Py_UNUSED(unused)) {
-  PyObject *dict = dict_of(self, PRESENT), *maker;
-  PyObject *from = dict ? PyImport_ImportModule("quic_wire.parameters") : NULL;
-  maker = from ? PyObject_GetAttrString(from, "_of_dict") : NULL;
-  Py_XDECREF(from);
-  if (maker)
-    return Py_BuildValue("(N(N))", maker, dict);
-  Py_XDECREF(dict);
-  return NULL;
-}
-
 static PyObject *parameters_repr(PyObject *self) {
   return wire_repr("TransportParameters", dict_of(self, CHANGED));
 }
@@ -482,7 +469,6 @@ static PyMethodDef parameters_methods[] = {
     {"_write", parameters_write, METH_VARARGS, NULL},
     {"_write_fault", parameters_write_fault, METH_O, NULL},
     WIRE_METHOD(Parameters, as_dict, parameters_as_dict, WIRE_FAST),
-    {"__reduce__", parameters_reduce, METH_NOARGS, NULL},
     {NULL, NULL, 0, NULL}};
 static PyType_Slot parameters_slots[] = {
     {Py_tp_dealloc, parameters_dealloc},

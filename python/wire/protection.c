@@ -7,6 +7,8 @@
 
 enum { MASK_LEN = 5 }; /* bytes that protect a header (RFC 9001, 5.4.1) */
 
+static const char bad_length_len[] = "length_len must be 1, 2, 4 or 8";
+
 /* An offset and a mask, as arguments: -1 with an exception. */
 static int check_mask(Py_ssize_t at, const wire_bytes *mask) {
   if (at < 0)
@@ -101,6 +103,26 @@ static PyObject *protect(PyObject *module, PyObject *const *args,
   return out;
 }
 
+/* Why a length can't be set: NULL with an exception. */
+static PyObject *length_mistake(int result, size_t packet_len, Py_ssize_t at,
+                                uint32_t len) {
+  if (at < 0 || (size_t)at > packet_len)
+    wire_fail(PyExc_ValueError, "number_at must be from 0 to %zu", packet_len);
+  else if (result != QUIC_WIRE_ERR_LENGTH)
+    wire_mistake(result);
+  else if (len != 1 && len != 2 && len != 4 && len != 8)
+    wire_fail(PyExc_ValueError, bad_length_len);
+  else if ((size_t)at < len)
+    wire_fail(PyExc_ValueError,
+              "length_len of %u doesn't fit before number_at of %zd",
+              (unsigned)len, at);
+  else
+    wire_fail(PyExc_ValueError,
+              "length_len of %u is too small for a length of %zu",
+              (unsigned)len, packet_len - (size_t)at);
+  return NULL;
+}
+
 static PyObject *set_length(PyObject *module, PyObject *const *args,
                             Py_ssize_t nargs, PyObject *names) {
   enum { PACKET, NUMBER_AT, LENGTH_LEN, COUNT };
@@ -108,6 +130,7 @@ static PyObject *set_length(PyObject *module, PyObject *const *args,
   wire_bytes packet;
   Py_ssize_t at;
   uint32_t len = 2;
+  size_t packet_len;
   int result = QUIC_WIRE_ERR_PLACE;
   if (wire_arguments(PyModule_GetState(module), CALL_set_length, args, nargs,
                      names, given) < 0 ||
@@ -118,8 +141,10 @@ static PyObject *set_length(PyObject *module, PyObject *const *args,
     return NULL;
   if (at >= 0)
     result = quic_wire_set_len(packet.view.buf, packet.len, (size_t)at, len);
+  packet_len = packet.len;
   wire_release(&packet);
-  return result < 0 ? wire_mistake(result) : Py_NewRef(Py_None);
+  return result < 0 ? length_mistake(result, packet_len, at, len)
+                    : Py_NewRef(Py_None);
 }
 
 /* ---- Writing headers */
@@ -172,8 +197,42 @@ static int parse_header(PyObject *const *given,
                                      "HANDSHAKE, RETRY or ONE_RTT");
 }
 
+/* Bytes that the header of a kind doesn't have, and that would be lost: -1 with
+ * an exception. A stack may pass a token for each of its long headers. */
+static int check_bytes(const quic_wire_header_fields *fields,
+                       const wire_bytes *scid, const wire_bytes *token) {
+  if (fields->kind == QUIC_WIRE_PACKET_1RTT && scid->len)
+    return wire_fail(PyExc_ValueError, "scid: a short header has none");
+  if (fields->kind == QUIC_WIRE_PACKET_1RTT && token->len)
+    return wire_fail(PyExc_ValueError, "token: a short header has none");
+  if (fields->kind == QUIC_WIRE_PACKET_RETRY && token->len)
+    return wire_fail(PyExc_ValueError, "token: a Retry's token and integrity "
+                                       "tag follow its header; append them");
+  return 0;
+}
+
+/* Names the argument for which no header was written, as the library checks
+ * them: NULL with an exception. */
+static PyObject *header_mistake(int result,
+                                const quic_wire_header_fields *fields,
+                                const wire_bytes *dcid,
+                                const wire_bytes *scid) {
+  if (result == QUIC_WIRE_ERR_NUMBER)
+    wire_fail(PyExc_ValueError, "version must not be 0");
+  else if (result != QUIC_WIRE_ERR_LENGTH)
+    wire_mistake(result);
+  else if (dcid->len > MOST_CID || scid->len > MOST_CID)
+    wire_fail(PyExc_ValueError, "%s must have at most %d bytes",
+              dcid->len > MOST_CID ? "dcid" : "scid", (int)MOST_CID);
+  else if (fields->numberlen < 1 || fields->numberlen > 4)
+    wire_fail(PyExc_ValueError, "number_len must be from 1 to 4");
+  else
+    wire_fail(PyExc_ValueError, bad_length_len);
+  return NULL;
+}
+
 /* Bytes of a header with ids of at most so many, and without a token. */
-enum { MOST_HEADER = 128, MOST_IDS = 40 };
+enum { MOST_HEADER = 128, MOST_IDS = 2 * MOST_CID };
 
 static PyObject *header_bytes(const quic_wire_header_fields *fields,
                               const wire_bytes *dcid, const wire_bytes *scid,
@@ -190,9 +249,12 @@ static PyObject *header_bytes(const quic_wire_header_fields *fields,
   }
   result = quic_wire_header_write(fields, dcid->at, dcid->len, scid->at,
                                   scid->len, token->at, token->len, at, room);
-  if (out || result < 0)
-    return wire_written(out, result < 0 ? (int)result : 0, (size_t)result);
-  return PyBytes_FromStringAndSize((char *)small, (Py_ssize_t)result);
+  if (result < 0) {
+    Py_XDECREF(out);
+    return header_mistake((int)result, fields, dcid, scid);
+  }
+  return out ? wire_front(out, (size_t)result)
+             : PyBytes_FromStringAndSize((char *)small, (Py_ssize_t)result);
 }
 
 static PyObject *write_header(PyObject *module, PyObject *const *args,
@@ -207,7 +269,8 @@ static PyObject *write_header(PyObject *module, PyObject *const *args,
     return NULL;
   if (wire_acquire(given[SCID], &scid) == 0) {
     if (wire_acquire(given[TOKEN], &token) == 0) {
-      out = header_bytes(&fields, &dcid, &scid, &token);
+      if (check_bytes(&fields, &scid, &token) == 0)
+        out = header_bytes(&fields, &dcid, &scid, &token);
       wire_release(&token);
     }
     wire_release(&scid);
@@ -231,6 +294,11 @@ static PyObject *negotiation_bytes(uint8_t unused, const wire_bytes *dcid,
         (uint8_t)((unused & 0x7f) ^ QUIC_WIRE_BIT_FIXED), dcid->at, dcid->len,
         scid->at, scid->len, list, count, at, room, &len);
   PyMem_Free(list);
+  if (result == QUIC_WIRE_ERR_LENGTH) {
+    Py_DECREF(out);
+    return PyErr_Format(PyExc_ValueError, "%s must have at most 255 bytes",
+                        dcid->len > UINT8_MAX ? "dcid" : "scid");
+  }
   return wire_written(out, result, len);
 }
 
@@ -322,6 +390,14 @@ static PyObject *varint_len(PyObject *Py_UNUSED(module), PyObject *value) {
   return PyLong_FromSize_t(quic_wire_varint_len(number));
 }
 
+/* The result of a call with the length of a packet number: NULL with an
+ * exception. */
+static PyObject *number_mistake(int result) {
+  if (result != QUIC_WIRE_ERR_LENGTH)
+    return wire_mistake(result);
+  return PyErr_Format(PyExc_ValueError, "length must be from 1 to 4");
+}
+
 static PyObject *number_len(PyObject *module, PyObject *const *args,
                             Py_ssize_t nargs) {
   enum { NUMBER_SENT, ACKNOWLEDGED, COUNT };
@@ -351,7 +427,7 @@ static PyObject *number_expand(PyObject *module, PyObject *const *args,
       wire_varint(given[EXPECTED], "expected", &next) < 0)
     return NULL;
   number = quic_wire_number_expand(written, len, next);
-  return number == UINT64_MAX ? wire_mistake(QUIC_WIRE_ERR_LENGTH)
+  return number == UINT64_MAX ? number_mistake(QUIC_WIRE_ERR_LENGTH)
                               : PyLong_FromUnsignedLongLong(number);
 }
 
@@ -374,7 +450,7 @@ static PyObject *number_read(PyObject *module, PyObject *const *args,
   wire_release(&bytes);
   if (result == QUIC_WIRE_ERR_PACKET_END)
     return NULL;
-  return result < 0 ? wire_mistake(result)
+  return result < 0 ? number_mistake(result)
                     : PyLong_FromUnsignedLongLong(written);
 }
 
@@ -392,7 +468,7 @@ static PyObject *number_write(PyObject *module, PyObject *const *args,
       wire_number(given[VALUE], "number", &number) < 0)
     return NULL;
   result = quic_wire_number_write(number, len, out, sizeof out);
-  return result < 0 ? wire_mistake(result)
+  return result < 0 ? number_mistake(result)
                     : PyBytes_FromStringAndSize((char *)out, result);
 }
 

@@ -23,6 +23,7 @@
 
 #define PACKET_KINDS 7   /* QUIC_WIRE_PACKET_INITIAL and so on */
 #define MOST_VERSIONS 32 /* that one call can be given */
+#define MOST_CID 20      /* bytes of an id of versions 1 and 2 */
 
 /* The kinds of frames, by their indices in wire_frame_kinds. */
 enum {
@@ -134,6 +135,8 @@ int wire_varint(PyObject *value, const char *name, uint64_t *out);
 /* A number below 2^32, and a byte. */
 int wire_uint32(PyObject *value, const char *name, uint32_t *out);
 int wire_uint8(PyObject *value, const char *name, uint8_t *out);
+/* The length of ids in short headers. */
+int wire_cid_len(PyObject *value, uint32_t *out);
 /* An offset or a length, which may be negative. */
 int wire_index(PyObject *value, const char *name, Py_ssize_t *out);
 /* A version. */

@@ -21,5 +21,5 @@ class Constants(NamedTuple):
 
 
 def constants(version: int) -> Constants:
-    """The constants of version 1 or 2; ValueError for others."""
+    """The constants of version 1 or 2; ValueError for others, also for drafts that are read."""
     return Constants(*_wire.version_constants(version))

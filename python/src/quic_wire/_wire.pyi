@@ -1,6 +1,6 @@
 # Made by scripts/make/tables from _wire.pyi.in and docs/formats.json: change nothing here.
 from collections.abc import Iterable, Iterator, Sequence
-from typing import Any, ClassVar, Optional, TypeVar, Union, final
+from typing import Any, ClassVar, Optional, TypeVar, Union, final, overload
 
 from ._fields import Raw
 from ._types import Buffer
@@ -69,7 +69,9 @@ class Frame:
     @property
     def is_flow_controlled(self) -> bool: ...
     def is_permitted_in(self, packet_type: int, /) -> bool:
-        """Whether packets of this type may carry it (RFC 9000, section 12.4, table 3)."""
+        """Whether packets of this type may carry it (RFC 9000, section 12.4, table 3). False for
+        numbers other than INITIAL, ZERO_RTT, HANDSHAKE and ONE_RTT of PacketType, which
+        check_permitted rejects."""
     def check_permitted(self, packet_type: int, sender: int, *, checks: Checks = ...) -> None:
         """Raises FrameError if packets of this type may not carry the frame (RFC 9000, section
         12.4, table 3), or if that side may not send it (sections 19.7, 19.20) or not on
@@ -247,8 +249,11 @@ class StreamsBlockedUni(Frame):
 class NewConnectionId(Frame):
     KIND: ClassVar[int]
     __match_args__ = ("sequence", "retire_prior_to", "connection_id", "reset_token")
+    @overload
+    def __init__(self, sequence: int, retire_prior_to: int, connection_id: Buffer, reset_token: Buffer) -> None: ...
+    @overload
     def __init__(
-        self, sequence: int = 0, retire_prior_to: int = 0, connection_id: Buffer = ..., reset_token: Buffer = ...
+        self, sequence: int = 0, retire_prior_to: int = 0, *, connection_id: Buffer, reset_token: Buffer
     ) -> None: ...
     @property
     def sequence(self) -> int: ...
@@ -271,7 +276,7 @@ class RetireConnectionId(Frame):
 class PathChallenge(Frame):
     KIND: ClassVar[int]
     __match_args__ = ("data",)
-    def __init__(self, data: Buffer = ...) -> None: ...
+    def __init__(self, data: Buffer = b"\0\0\0\0\0\0\0\0") -> None: ...
     @property
     def data(self) -> bytes: ...
 
@@ -279,7 +284,7 @@ class PathChallenge(Frame):
 class PathResponse(Frame):
     KIND: ClassVar[int]
     __match_args__ = ("data",)
-    def __init__(self, data: Buffer = ...) -> None: ...
+    def __init__(self, data: Buffer = b"\0\0\0\0\0\0\0\0") -> None: ...
     @property
     def data(self) -> bytes: ...
 
@@ -346,7 +351,8 @@ class FrameIterator(Iterator[Frame]):
     def skip(self, end: int, type: int, /) -> None:
         """Passes over a frame of this type, which the library doesn't know and the caller read:
         the next frame is the one at end, an offset in the payload. Use it after the
-        FrameError that the frame raised; the frame begins at offset."""
+        FrameError that the frame raised; the frame begins at offset. The type isn't compared
+        with the bytes, and may be one that the library knows."""
     def __next__(self) -> Frame: ...
 
 def frames(payload: Buffer, /, *, at: int = 0, checks: Checks = ...) -> FrameIterator:
@@ -442,12 +448,15 @@ class UnknownVersion(Packet):
 def read_packets(
     datagram: Buffer, cid_len: int, versions: Optional[Sequence[int]] = None, *, checks: Checks = ...
 ) -> list[Packet]:
-    """The packets of a datagram as a list. Ids in short headers have cid_len bytes. Raises
-    PacketError, with the packets before it in its attribute packets."""
+    """The packets of a datagram as a list. Ids in short headers have cid_len bytes. versions
+    are as in read_packet. Raises PacketError, with the packets before it in its attribute
+    packets."""
 def read_packet(
     datagram: Buffer, cid_len: int, at: int = 0, versions: Optional[Sequence[int]] = None, *, checks: Checks = ...
 ) -> Packet:
-    """The packet that begins at an offset of a datagram."""
+    """The packet that begins at an offset of a datagram. versions are those that are read, by
+    default 1, its drafts 29 to 34 (0xff00001d to 0xff000022) and 2; a packet of another one
+    is an UnknownVersion. Raises PacketError."""
 def unprotect(packet: Buffer, number_at: int, mask: Buffer, expected: int = 0) -> tuple[int, bytes]:
     """The packet number, relative to the one that is expected next, and a copy of the header
     without its protection, up to the end of that number (RFC 9001, section 5.4.1)."""
@@ -470,7 +479,12 @@ def write_header(
     key_phase: bool = False,
     fixed_bit: bool = True,
 ) -> bytes:
-    """A header without protection. Its length is 0 until set_length."""
+    """A header without protection. The packet number is its end, and begins at
+    len(header) - number_len. Its length is 0 until set_length. A Retry has no number; its
+    token and integrity tag follow the header. Raises ValueError for a token of RETRY or
+    ONE_RTT, and for a scid of ONE_RTT. Other arguments that a packet_type doesn't have are
+    ignored, also a token of ZERO_RTT and HANDSHAKE: a stack may pass the same ones for all
+    its long headers."""
 def write_version_negotiation(dcid: Buffer, scid: Buffer, versions: Iterable[int], unused: int = 0x40) -> bytes:
     """A Version Negotiation packet (RFC 9000, section 17.2.1), with the unused bits of its
     first byte."""

@@ -286,7 +286,10 @@ def packets(
 
     checks says by which rules packets and frames are read. The fixed bit may be clear in any case, since a capture
     needn't show whether that was negotiated. Not checked are which packets may carry a frame, which side may send it
-    (`check_permitted`), and transport parameters. Raises CaptureError if the file isn't a capture, and OSError.
+    (`check_permitted`), and transport parameters.
+
+    Raises CaptureError if the file isn't a capture, and, after the packets before it, at a record that is invalid or
+    within which the file is cut off; and OSError.
     """
     flows: dict[frozenset[pcap.Endpoint], _Flow] = {}
     for datagram in pcap.datagrams(file):

@@ -120,7 +120,7 @@ def initial_keys(version: int, dcid: Buffer) -> tuple[PacketKeys, PacketKeys]:
     """The keys of Initial packets of the client and of the server.
 
     They are made from the Destination Connection ID of the client's first Initial packet (RFC 9001, section 5.2;
-    RFC 9369, section 3.3.1).
+    RFC 9369, section 3.3.1). Raises ValueError for a version that isn't 1 or 2, also for a draft that is read.
     """
     initial = hmac.new(_SALTS[Version(version)], bytes(memoryview(dcid)), hashlib.sha256).digest()
     secrets = (expand_label(initial, f"{side} in", 32, "sha256") for side in ("client", "server"))
@@ -129,7 +129,8 @@ def initial_keys(version: int, dcid: Buffer) -> tuple[PacketKeys, PacketKeys]:
 
 
 def retry_integrity_tag(version: int, original_dcid: Buffer, retry: Buffer) -> bytes:
-    """The tag of a Retry packet, which is passed without one (RFC 9001, section 5.8)."""
+    """The tag of a Retry packet, which is passed without one (RFC 9001, section 5.8). Raises ValueError for a version
+    that isn't 1 or 2."""
     key, nonce = (bytes.fromhex(text) for text in _RETRY_KEYS[Version(version)])
     original = bytes(memoryview(original_dcid))
     pseudo = bytes([len(original)]) + original + bytes(memoryview(retry))

@@ -2,7 +2,7 @@
 
 from __future__ import annotations
 
-from typing import TYPE_CHECKING, NoReturn, Optional
+from typing import TYPE_CHECKING, Any, NoReturn, Optional
 
 from . import _parameters
 from ._fields import (
@@ -103,11 +103,16 @@ class PacketError(Error):
     - packets: the packets before it; None if they were read one by one.
     - packet: what was read from a packet that is cut off, or None.
     - kind, reason, offset, field, field_offset, fields, section: as in Error. code is None.
+
+    Packets can't be pickled. So in a copy, also one that was pickled, packets and packet are None.
     """
 
     kind: ErrorKind
     packets: Optional[list[Packet]] = None
     packet: Optional[Packet] = None
+
+    def __reduce__(self) -> tuple[Any, ...]:
+        return type(self), self.args, vars(self) | {"packets": None, "packet": None}
 
 
 class ParameterError(Error):

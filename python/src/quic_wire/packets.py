@@ -15,7 +15,12 @@ __all__ = ["PacketType", "Version", "packets"]
 
 
 class Version(enum.IntEnum):
-    """Versions of QUIC that are read: RFC 9000, RFC 9369."""
+    """Versions of QUIC that are read: RFC 9000, RFC 9369.
+
+    By default the drafts 29 to 34 of version 1, 0xff00001d to 0xff000022, are read too, as quinn-proto does. They have
+    no member here, and their salts aren't in this package: Version, `constants` and what makes keys raise ValueError for
+    them.
+    """
 
     V1 = 0x00000001
     V2 = 0x6B3343CF

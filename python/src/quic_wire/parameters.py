@@ -4,6 +4,7 @@ from __future__ import annotations
 
 import enum
 import ipaddress
+import operator
 from collections.abc import Iterable, Iterator
 from dataclasses import dataclass
 from typing import Any, NamedTuple, Optional
@@ -45,6 +46,8 @@ class Side(enum.IntEnum):
 
 
 _SIDES = tuple(Side)
+# The attributes of an object, if its class has some; mypy 1.0 doesn't know that objects have the method.
+_state_of = operator.methodcaller("__getstate__")
 
 
 @dataclass(frozen=True, slots=True)
@@ -69,6 +72,12 @@ class TransportParameters(_Parameters):
     def present(self) -> frozenset[str]:
         """The names of those that were in the list that was read, or were given."""
         return frozenset(self.as_dict(present=True))
+
+    def __reduce__(self) -> tuple[Any, ...]:
+        # By the names that were given, so that they are given again.
+        made = _of_dict, (_Parameters.as_dict(self, present=True), type(self))
+        state = _state_of(self)
+        return made if state is None else (*made, state)
 
     def write(self, side: Side, further: Iterable[tuple[int, Buffer]] = (), order: Iterable[int] = ()) -> bytes:
         """The shortest list of these parameters, as `side` sends them.
@@ -191,8 +200,8 @@ def parameters(data: Buffer) -> Iterator[Parameter]:
         raise _parameter_cut_off(end, number[0] if number else None)
 
 
-def _of_dict(values: dict[str, Any]) -> TransportParameters:
-    return TransportParameters(**values)
+def _of_dict(values: dict[str, Any], kind: type[TransportParameters] = TransportParameters) -> TransportParameters:
+    return kind.__new__(kind, **values)
 
 
 def _address_read(

@@ -19,7 +19,7 @@ Path = Union[str, os.PathLike[str]]
 
 
 class CaptureError(ValueError):
-    """A file isn't a capture that can be read here."""
+    """A file isn't a capture that can be read here, or is cut off within a record."""
 
 
 class Endpoint(NamedTuple):
@@ -84,15 +84,21 @@ def _exactly(file: BinaryIO, count: int) -> Optional[bytes]:
     return b"".join(pieces) or None
 
 
+def _rest(file: BinaryIO, count: int) -> bytes:
+    """The next bytes of what has begun."""
+    data = _exactly(file, count) if count else b""
+    if data is None:
+        raise CaptureError("the file is cut off")
+    return data
+
+
 def _pcap(file: BinaryIO, magic: bytes) -> Iterator[_Record]:
     order, unit = _PCAP_ORDERS[magic]
-    header = _exactly(file, 20)
-    if header is None:
-        raise CaptureError("the file is cut off")
+    header = _rest(file, 20)
     link = struct.unpack(order + "I", header[16:])[0] & 0xFFFF
     while (record := _exactly(file, 16)) is not None:
         seconds, parts, count, _ = struct.unpack(order + "IIII", record)
-        yield _Record(link, seconds + parts * unit, memoryview(_exactly(file, count) or b""))
+        yield _Record(link, seconds + parts * unit, memoryview(_rest(file, count)))
 
 
 def _options(order: str, data: bytes) -> Iterator[tuple[int, bytes]]:
@@ -119,16 +125,16 @@ def _pcapng(file: BinaryIO) -> Iterator[_Record]:
     first = struct.pack("<I", _SECTION)
     while (head := first or _exactly(file, 4)) is not None:
         first = b""
-        size_bytes = _exactly(file, 4) or b""
+        size_bytes = _rest(file, 4)
         kind = struct.unpack(order + "I", head)[0]
         if kind == _SECTION:
-            magic = _exactly(file, 4) or b""
+            magic = _rest(file, 4)
             order, interfaces = "<" if magic == b"\x4d\x3c\x2b\x1a" else ">", []
         size = struct.unpack(order + "I", size_bytes)[0] - (16 if kind == _SECTION else 12)
         if size < 0:
             raise CaptureError("a block has no such length")
-        body = _exactly(file, size) or b""
-        _exactly(file, 4)
+        body = _rest(file, size)
+        _rest(file, 4)
         if kind == _INTERFACE:
             interfaces.append((struct.unpack_from(order + "H", body)[0], _time_unit(order, body[8:])))
         elif kind == _ENHANCED:
@@ -185,7 +191,11 @@ def _datagram(number: int, time: float, ip: memoryview) -> Optional[Datagram]:
 
 
 def datagrams(file: Union[Path, BinaryIO]) -> Iterator[Datagram]:
-    """The UDP datagrams of a capture file, in its order. Raises CaptureError and OSError."""
+    """The UDP datagrams of a capture file, in its order.
+
+    Raises CaptureError if the file isn't a capture, and, after the datagrams before it, at a record that is invalid or
+    within which the file is cut off; and OSError.
+    """
     if isinstance(file, (str, os.PathLike)):
         with open(file, "rb") as opened:
             yield from datagrams(opened)

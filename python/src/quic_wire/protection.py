@@ -119,7 +119,15 @@ def seal_packet(
     key_phase: bool = False,
     fixed_bit: bool = True,
 ) -> bytes:
-    """A packet sealed with keys. A payload that is too short for a sample is padded (RFC 9001, section 5.4.2)."""
+    """A packet sealed with keys. A payload that is too short for a sample is padded (RFC 9001, section 5.4.2).
+
+    The arguments after keys are those of write_header. Raises ValueError for a Retry or Version Negotiation, which have
+    no protection, and for a token of a packet that has none.
+    """
+    if packet_type in (PacketType.RETRY, PacketType.VERSION_NEGOTIATION):
+        raise ValueError("packet_type must be INITIAL, ZERO_RTT, HANDSHAKE or ONE_RTT: others have no protection")
+    if packet_type != PacketType.INITIAL and len(memoryview(token)):
+        raise ValueError("token: only an Initial packet has one")
     header = write_header(
         packet_type, dcid, scid, token, version=version, number=number, number_len=number_len, length_len=length_len,
         spin=spin, key_phase=key_phase, fixed_bit=fixed_bit,

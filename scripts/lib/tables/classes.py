@@ -38,6 +38,7 @@ KINDS = {
     "MAX_STREAMS_UNI": "MAX_STREAMS of unidirectional streams ({section}).",
     "STREAMS_BLOCKED_BIDI": "STREAMS_BLOCKED of bidirectional streams ({section}).",
     "STREAMS_BLOCKED_UNI": "STREAMS_BLOCKED of unidirectional streams ({section}).",
+    "NEW_CONNECTION_ID": "NEW_CONNECTION_ID ({section}). connection_id and reset_token must be given.",
     "CONNECTION_CLOSE": "CONNECTION_CLOSE of the transport, 0x1c ({section}).",
     "APPLICATION_CLOSE": "CONNECTION_CLOSE of the application, 0x1d ({section}).",
 }
@@ -155,7 +156,8 @@ def fields_of(word, types, structs):
             called, slot = numbers.get(name, (NAMES.get(name, row["key"]), 0))
             if how == "data" and called != "data":
                 how = "bytes"
-            found.append(Field(called, how, doc_of(row), slot if how in ("number", "ecn") else 0, "bytes" in row))
+            found.append(Field(called, how, doc_of(row), slot if how in ("number", "ecn") else 0,
+                               "bytes" in row and how != "path"))
     return found
 
 

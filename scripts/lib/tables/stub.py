@@ -9,7 +9,7 @@ TYPES = {
     "number": ("int = 0", "int"), "count": ("int = 1", "int"), "ecn": ("Optional[int] = None", "Optional[int]"),
     "ranges": ("Optional[_Ranges] = None", "tuple[range, ...]"), "fin": ("bool = False", "bool"),
     "data": ('Buffer = b""', "memoryview"), "bytes": ('Buffer = b""', "bytes"), "token": ("Buffer = ...", "bytes"),
-    "path": ("Buffer = ...", "bytes"),
+    "path": (r'Buffer = b"\0\0\0\0\0\0\0\0"', "bytes"),
 }
 PACKET_TYPES = {
     "token": "bytes", "retry_token": "bytes", "retry_tag": "Optional[bytes]", "length": "int",
@@ -55,10 +55,21 @@ def given(field):
     return kind.replace('b""', "...") if field.is_needed else kind
 
 
+def inits(fields):
+    """The constructor of a frame. If bytes must be given, there are two: for all fields, by position or by name, and for
+    those bytes by name."""
+    arguments = [f"{it.name}: {given(it)}" for it in fields]
+    if not any(it.is_needed for it in fields):
+        return init(["self", *arguments])
+    required = [one.removesuffix(" = ...") if it.is_needed else one for one, it in zip(arguments, fields)]
+    first = next(i for i, it in enumerate(fields) if it.is_needed)
+    ways = [[one.split(" = ")[0] for one in arguments], [*required[:first], "*", *required[first:]]]
+    return "".join(f"    @overload\n{init(['self', *way])}" for way in ways)
+
+
 def frame(one):
     return (
-        f"@final\nclass {one.name}(Frame):\n    KIND: ClassVar[int]\n{names(one.fields)}"
-        f"{init(['self', *(f'{it.name}: {given(it)}' for it in one.fields)])}"
+        f"@final\nclass {one.name}(Frame):\n    KIND: ClassVar[int]\n{names(one.fields)}{inits(one.fields)}"
         f"{properties({it.name: TYPES[it.how][1] for it in one.fields})}")
 
 

@@ -53,7 +53,9 @@ impl<'a> Frame<'a> {
             frame => *frame,
         }
     }
+}
 
+impl Frame<'_> {
     // What the proved functions require: the frame is in range, and so is a length that is written.
     #[inline]
     pub(crate) fn check(&self, last: bool) -> Result {

@@ -264,7 +264,8 @@ impl Checker {
         let is_at_sender = about.is_at_sender();
         let most = most_claims.clamp(*CLAIMS_OF_CONNECTION.start(), *CLAIMS_OF_CONNECTION.end());
         for (finding, claim) in claims {
-            if let Some(left) = history.waiting.add(Pending::new(finding, claim, is_at_sender), most) {
+            let pending = Pending::new(finding, claim, history, is_at_sender, facts.last_time);
+            if let Some(left) = history.waiting.add(pending, most) {
                 let need = if matches!(left.claim, Claim::Unsent { .. }) { Need::Proof } else { Need::Room };
                 groups.silent(left.finding.rule, need);
             }

@@ -102,6 +102,11 @@ impl Claim {
         )
     }
 
+    // Whether it counts all that its sender sent so far.
+    fn is_sum(&self) -> bool {
+        matches!(self, Claim::Data(_) | Claim::Bytes(_) | Claim::BytesTo(..))
+    }
+
     // Whether what its sender knew may have come in packets of several number spaces, whose order no numbers show.
     fn has_spaces(&self, sender: Side) -> bool {
         matches!(self, Claim::Bytes(_)) || matches!(self, Claim::Unconfirmed if sender == Side::Server)
@@ -285,6 +290,8 @@ pub(crate) enum Order {
 pub(crate) struct Pending {
     pub(crate) finding: Finding,
     pub(crate) claim: Claim,
+    /// The last packet that the claim is about: of a sum it may be one that comes earlier in the file.
+    last: Option<u64>,
     /// When time decides it.
     pub(crate) due: Option<u64>,
     /// Whether the capture was taken where the packet was sent.
@@ -295,12 +302,16 @@ pub(crate) struct Pending {
 }
 
 impl Pending {
-    /// Of what is found at a side's host, or elsewhere.
-    pub(crate) fn new(finding: Finding, claim: Claim, is_at_sender: bool) -> Pending {
-        let is_unsent = matches!(claim, Claim::Unsent { .. });
-        let mut one = Pending { finding, claim, due: None, is_at_sender, order: Order::Open, is_proven: !is_unsent };
-        let is_by_time = claim.is_timed() && (is_at_sender || claim.has_spaces(one.finding.sender));
-        one.due = is_by_time.then(|| one.finding.time.saturating_add(one.margin()));
+    /// Of what is found at a side's host, or elsewhere. `now` is the latest time in the file.
+    pub(crate) fn new(finding: Finding, claim: Claim, history: &History, is_at_sender: bool, now: u64) -> Pending {
+        let (is_unsent, sender) = (matches!(claim, Claim::Unsent { .. }), finding.sender);
+        let seen = space_of(finding.packet).and_then(|space| history.half(sender).seen[space as usize].max());
+        let last = finding.number.max(seen.filter(|_| claim.is_sum()));
+        let begin = if claim.is_sum() { finding.time.max(now) } else { finding.time };
+        let (order, is_proven) = (Order::Open, !is_unsent);
+        let mut one = Pending { finding, claim, last, due: None, is_at_sender, order, is_proven };
+        let is_by_time = claim.is_timed() && (is_at_sender || claim.has_spaces(sender));
+        one.due = is_by_time.then(|| begin.saturating_add(one.margin()));
         one
     }
 
@@ -309,15 +320,15 @@ impl Pending {
         if self.is_at_sender || !self.claim.is_timed() { GRACE } else { SECOND }
     }
 
-    // Whether it goes on, now that a packet of the peer comes. What the peer sent before one that acknowledges the
-    // accused packet, or answers it, may have come before that; what it sent later didn't.
+    // Whether it goes on, now that a packet of the peer comes. What the peer sent before one that acknowledges the last
+    // packet, or answers it, may have come before that; what it sent later didn't.
     fn take(&mut self, next: &Next, holds: impl Fn(&Claim) -> bool) -> bool {
         let is_unordered = matches!(self.claim, Claim::Unconfirmed) && self.finding.sender == Side::Server;
         if !self.claim.is_timed() || is_unordered || self.finding.sender == next.sender {
             return true;
         }
         let is_same = Some(next.space) == space_of(self.finding.packet);
-        let is_after = is_same && next.knows.zip(self.finding.number).is_some_and(|(knows, number)| knows >= number);
+        let is_after = is_same && next.knows.zip(self.last).is_some_and(|(knows, last)| knows >= last);
         match self.order {
             Order::Open if is_after => {
                 self.order = Order::Before { number: next.number, datagram: next.datagram };

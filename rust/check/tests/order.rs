@@ -114,6 +114,40 @@ fn a_challenge_that_is_late() {
     talk.later().is_silent("path-amplification", Need::Time);
 }
 
+// What the server sent after the answer to its challenge is in the file before the challenge, whose record then has the
+// sum. The first packet of the client that acknowledges the challenge doesn't show what it had sent by the others.
+#[test]
+fn a_sum_with_later_packets() {
+    let mut talk = Talk::open();
+    talk.made.addresses[0].set_port(5);
+    talk.short(Client, PING);
+    let index = talk.next();
+    talk.short(Server, b"\x1a12345678").short(Client, &padded(b"\x1b12345678", 1200));
+    for _ in 0..4 {
+        talk.short(Server, &padded(PING, 1178));
+    }
+    talk.all[index..].rotate_left(2);
+    talk.later().is_silent("path-amplification", Need::Time);
+}
+
+// Section 4.1: 1,000 bytes are permitted on all streams, and then more. The first 500 are in the file after the last 100.
+#[test]
+fn a_sum_of_data_with_later_packets() {
+    let data = |stream: u8, len: u16| {
+        let len_bytes = (0x4000 | len).to_be_bytes();
+        [&[0x0a, stream][..], &len_bytes, &vec![0x61; usize::from(len)]].concat()
+    };
+    let mut talk = Talk::open();
+    let index = talk.next();
+    talk.short(Client, &data(0, 500)).short(Client, &data(4, 500));
+    let both = all_to(talk.made.numbers[0][2] - 1);
+    talk.short(Server, &both).short(Server, &[0x10, 0x47, 0xd0]).short(Client, &data(8, 100));
+    let last = talk.all.pop().unwrap();
+    let first = talk.all.remove(index);
+    talk.all.splice(index + 1..index + 1, [last, first]);
+    talk.later().is_silent("data-limit", Need::Time);
+}
+
 // Section 19.20: HANDSHAKE_DONE more than a second before the client's Handshake packet. If a packet of the client is in
 // the file after an ACK of it, times say nothing.
 #[test]

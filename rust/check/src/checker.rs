@@ -112,8 +112,9 @@ impl Facts {
         let (sender, spaces) = (finding.sender, claim.spaces());
         let is_closed = connection.end(sender).closed().or(connection.end(!sender).closed()).is_some();
         // The id before may be issued a bit later.
-        let is_open = *order == Order::Open && (claim.is_timed() || matches!(claim, Claim::Gap(_)));
-        let is_soon = finding.time.saturating_add(pending.margin()) > connection.times().1;
+        let is_gap = matches!(claim, Claim::Gap(_)) && !is_closed;
+        let is_soon = is_gap && finding.time.saturating_add(pending.margin()) > connection.times().1;
+        let is_open = claim.is_about_peer() || claim.is_timed() && *order == Order::Open;
         if history.is_full {
             return Some(Need::Room);
         }
@@ -131,7 +132,7 @@ impl Facts {
             // Times say nothing if packets are in the file after what acknowledges them.
             Need::Time => *order == Order::Passed && !is_at_sender && history.half(!sender).is_late,
             Need::Proof => !is_proven,
-            Need::End => is_open && is_soon && !is_closed,
+            Need::End => is_soon || is_open && !pending.is_answered(connection, history),
             _ => false,
         })
     }

@@ -102,6 +102,19 @@ impl Claim {
         )
     }
 
+    /// Whether a packet of its peer permits it, wherever that is in the file.
+    pub(crate) fn is_about_peer(&self) -> bool {
+        matches!(
+            self,
+            Claim::Unused(_)
+                | Claim::Answer(_)
+                | Claim::AnswerAgain(_)
+                | Claim::AnswerTo(..)
+                | Claim::Retired(_)
+                | Claim::Destination(_)
+        )
+    }
+
     // Whether it counts all that its sender sent so far.
     fn is_sum(&self) -> bool {
         matches!(self, Claim::Data(_) | Claim::Bytes(_) | Claim::BytesTo(..))
@@ -313,6 +326,16 @@ impl Pending {
         let is_by_time = claim.is_timed() && (is_at_sender || claim.has_spaces(sender));
         one.due = is_by_time.then(|| begin.saturating_add(one.margin()));
         one
+    }
+
+    /// Whether its peer sent a packet after it: one that acknowledges it or what was sent later, or a close, the last
+    /// of all. Before that the peer's packets may be missing at the end of the file, where no number shows it.
+    pub(crate) fn is_answered(&self, connection: &Connection, history: &History) -> bool {
+        let sender = self.finding.sender;
+        let of_space = |space| history.half(sender).acknowledged[space as usize].max();
+        let acknowledged = space_of(self.finding.packet).and_then(of_space);
+        acknowledged.zip(self.last).is_some_and(|(acknowledged, last)| acknowledged >= last)
+            || connection.end(!sender).closed().is_some()
     }
 
     /// How late a record may be that refutes it.

@@ -104,7 +104,7 @@ pub enum Need {
     NoStrays,
     /// That it isn't a 0-RTT packet, to which the limits of an earlier connection apply.
     OneRtt,
-    /// Some time after it, or a close.
+    /// A packet of its receiver that was sent after it: an ACK of it, or a close. If time decides, that much time.
     End,
     /// That there was room for all that must be remembered. All rules of the whole history need it.
     Room,

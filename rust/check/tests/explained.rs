@@ -283,5 +283,5 @@ fn answers_to_an_old_address() {
     talk.made.addresses[0].set_port(5);
     let index = talk.short(Client, &ack(0)).short(Client, &padded(CHALLENGE, 1200)).next();
     talk.made.addresses[0] = old;
-    talk.short(Server, &padded(RESPONSE, 1200)).finds("response-path", "RFC 9000, section 8.2.2", index);
+    talk.short(Server, &padded(RESPONSE, 1200)).later().finds("response-path", "RFC 9000, section 8.2.2", index);
 }

@@ -10,7 +10,7 @@ use made::{Client, Initial, Server, Short, frame};
 use quic_wire::frame::{Frame, NewConnectionId};
 use quic_wire::{ConnectionId, Side};
 use quic_wire_check::rule::Need;
-use talk::{PING, Talk, padded};
+use talk::{PING, Talk, all_to, padded};
 
 const HANDSHAKE_DONE: &[u8] = &[0x1e];
 
@@ -45,6 +45,48 @@ fn packets_of_the_other_direction() {
     let mut talk = amplified(Server, PING);
     talk.all.remove(3);
     talk.is_silent("amplification", Need::OwnPackets);
+}
+
+// The client's packet that permits something, the server's that uses it, and others of the server. Those of the client
+// after that are only in `answered`.
+fn permitted(permit: &[u8], used: &[u8], answer: Option<&[u8]>) -> Talk {
+    let mut talk = Talk::open();
+    talk.short(Client, permit);
+    talk.all.pop();
+    talk.short(Server, used);
+    talk.made.time += 2_000_000_000;
+    let last = talk.made.numbers[1][2] - 1;
+    talk.short(Server, PING);
+    match answer {
+        Some(close) => talk.short(Client, close),
+        None => talk.short(Client, &all_to(last)),
+    };
+    talk
+}
+
+// A packet that isn't in the capture shows by a greater number, or by an ACK of it. Without either the rules that ask
+// for what a side's peer sent are silent.
+#[test]
+fn last_packets() {
+    let data = |stream: u8| [&[0x0a, stream, 0x41, 0x90][..], &[0x61; 400]].concat();
+    let rules: [(&str, &[u8], &[u8]); 5] = [
+        ("unopened-stream", &[0x0a, 0, 1, 0x61], &[0x0a, 0, 1, 0x61]),
+        ("path-response", &padded(b"\x1a12345678", 1200), &padded(b"\x1b12345678", 1200)),
+        ("retire-unknown", &new_id(2, 0, b"second"), &[0x19, 2]),
+        ("stream-count", &[0x13, 5], &[0x0a, 19, 1, 0x61]),
+        ("data-limit", &[0x10, 0x47, 0xd0], &[data(1), data(5), data(9)].concat()),
+    ];
+    for (rule, permit, used) in rules {
+        let close: &[u8] = &[0x1d, 0, 0];
+        for answer in [None, Some(close)] {
+            let mut talk = permitted(permit, used, answer);
+            assert!(talk.report().findings.is_empty(), "{rule}: {:#?}", talk.report().findings);
+            talk.all.pop();
+            let report = talk.report();
+            assert!(report.findings.is_empty(), "{rule}: {:#?}", report.findings);
+            assert!(report.unchecked.contains_key(&(rule, Need::End)), "{rule}: {:?}", report.unchecked);
+        }
+    }
 }
 
 fn new_id(sequence: u64, retire_prior_to: u64, id: &[u8]) -> Vec<u8> {

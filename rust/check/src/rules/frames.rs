@@ -62,21 +62,21 @@ pub(super) static RULES: &[Rule] = &[
         "A PATH_RESPONSE has the data of a PATH_CHALLENGE of the peer.",
         Check::Frame(Types::PATH_RESPONSE, path_response),
     )
-    .with(History::Whole, &[Need::Begin, Need::PeerPackets, Need::OwnPackets]),
+    .with(History::Whole, &[Need::Begin, Need::PeerPackets, Need::OwnPackets, Need::End]),
     Rule::must(
         "response-twice",
         "8.2.2",
         "A PATH_CHALLENGE is answered by at most one PATH_RESPONSE.",
         Check::Frame(Types::PATH_RESPONSE, response_twice),
     )
-    .with(History::Whole, &[Need::Begin, Need::PeerPackets, Need::OwnPackets]),
+    .with(History::Whole, &[Need::Begin, Need::PeerPackets, Need::OwnPackets, Need::End]),
     Rule::must(
         "response-path",
         "8.2.2",
         "A server sends PATH_RESPONSE to the address from which the PATH_CHALLENGE came.",
         Check::Frame(Types::PATH_RESPONSE, response_path),
     )
-    .with(History::Whole, &[]),
+    .with(History::Whole, &[Need::End]),
     Rule::must(
         "challenge-data",
         "8.2.1",

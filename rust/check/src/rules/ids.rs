@@ -71,7 +71,7 @@ pub(super) static RULES: &[Rule] = &[
         "RETIRE_CONNECTION_ID names a sequence number that the peer issued.",
         Check::Frame(Types::RETIRE_CONNECTION_ID, retire_unknown),
     )
-    .with(History::Whole, &[Need::Begin, Need::PeerPackets, Need::OwnPackets]),
+    .with(History::Whole, &[Need::Begin, Need::PeerPackets, Need::OwnPackets, Need::End]),
     Rule::must(
         "retire-own",
         "19.16",

@@ -37,7 +37,7 @@ pub(super) static RULES: &[Rule] = &[
         "Packets with long headers go to an id of the peer or, before its first packet, to the client's first one.",
         Check::Packet(destination_id),
     )
-    .with(History::Whole, &[Need::Begin, Need::PeerPackets]),
+    .with(History::Whole, &[Need::Begin, Need::PeerPackets, Need::End]),
     Rule::must(
         "source-id",
         "7.2",

@@ -34,7 +34,7 @@ pub(super) static RULES: &[Rule] = &[
         "A side names no stream that its peer would have to open first.",
         Check::Frame(Types::OF_STREAMS, unopened_stream),
     )
-    .with(History::Whole, &[Need::Begin, Need::PeerPackets, Need::OwnPackets, Need::NoEarlyData]),
+    .with(History::Whole, &[Need::Begin, Need::PeerPackets, Need::OwnPackets, Need::NoEarlyData, Need::End]),
     Rule::must(
         "final-size",
         "4.5",

@@ -13,6 +13,7 @@ Exit status: 0 each scene was recorded or skipped, 1 one failed, 2 usage error.
 """
 
 import base64
+import contextlib
 import gzip
 import hashlib
 import os
@@ -48,6 +49,16 @@ def end(program):
     except subprocess.TimeoutExpired:
         program.kill()
         program.wait()
+
+
+@contextlib.contextmanager
+def running(command, log, **options):
+    """Runs a program while something is done, also if that fails."""
+    program = begin(command, log, **options)
+    try:
+        yield
+    finally:
+        end(program)
 
 
 def wait_for(text, log):
@@ -96,27 +107,32 @@ def play(scene: Scene):
         Path(name).write_text(filled(text))
     for name, size in scene.sizes.items():
         Path("www", name).write_bytes(b"a" * size)
-    dumpcap = begin(["dumpcap", "-q", *scene.capture, "-f", scene.only, "-w", "capture"], "dumpcap.log")
-    wait_for("File:", "dumpcap.log")
-    helpers = [begin(helper, "helpers.log") for helper in scene.helpers]
-    # Both sides' secrets are in the client's log.
-    server = begin(scene.server, "server.log", env=dict(os.environ, XDG_DATA_HOME=".", XDG_CONFIG_HOME="."))
-    time.sleep(scene.patience)
-    own = dict(os.environ, HOME=str(Path.cwd()), SSLKEYLOGFILE=str(Path("keys").resolve()))
-    for client in scene.clients:
-        program = begin([filled(word) for word in client], "client.log", env=own)
-        try:
-            status = program.wait(timeout=scene.limit)
-        except subprocess.TimeoutExpired:
-            program.kill()
-            raise Failed(f"{client[0]} doesn't end") from None
-        if (status == 0) != scene.succeeds:
-            raise Failed(f"{client[0]} ended with status {status}: {Path('client.log').read_text(errors='replace')}")
-        time.sleep(0.3)
-    for program in (server, *helpers):
-        end(program)
-    time.sleep(0.5)
-    end(dumpcap)
+    with running(["dumpcap", "-q", *scene.capture, "-f", scene.only, "-w", "capture"], "dumpcap.log"):
+        wait_for("File:", "dumpcap.log")
+        with contextlib.ExitStack() as programs:
+            for helper in scene.helpers:
+                programs.enter_context(running(helper, "helpers.log"))
+            # Both sides' secrets are in the client's log.
+            own = dict(os.environ, XDG_DATA_HOME=".", XDG_CONFIG_HOME=".")
+            programs.enter_context(running(scene.server, "server.log", env=own))
+            time.sleep(scene.patience)
+            own = dict(os.environ, HOME=str(Path.cwd()), SSLKEYLOGFILE=str(Path("keys").resolve()))
+            for client in scene.clients:
+                ask(scene, [filled(word) for word in client], own)
+                time.sleep(0.3)
+        time.sleep(0.5)
+
+
+def ask(scene, client, own):
+    """Runs a client until it ends."""
+    program = begin(client, "client.log", env=own)
+    try:
+        status = program.wait(timeout=scene.limit)
+    except subprocess.TimeoutExpired:
+        program.kill()
+        raise Failed(f"{client[0]} doesn't end") from None
+    if (status == 0) != scene.succeeds:
+        raise Failed(f"{client[0]} ended with status {status}: {Path('client.log').read_text(errors='replace')}")
 
 
 def finish(name, scene, folder):

@@ -15,7 +15,8 @@
 //!   `retire-without-bytes` and `chosen-version` need what doesn't change: parameters, ids, addresses and versions.
 //!   Those that need parameters have `Need::PeerParameters`.
 //!
-//! In the first three groups packets that were acknowledged and aren't in the file are `Need::PeerPackets`.
+//! In the first three groups packets that were acknowledged and aren't in the file are `Need::PeerPackets`, and those that
+//! may be missing at its end, where nothing shows it, are `Need::End`.
 
 mod datagrams;
 mod frames;

@@ -1,7 +1,7 @@
 //! The rules, as one table.
 //!
-//! Many depend on what the peer of a packet's sender had sent before. All of the peer's packets may be late in the file,
-//! or not in it, so no rule accuses by the records alone:
+//! Many depend on what the peer of a packet's sender had sent before. All of the peer's packets may be late in the
+//! file, or not in it, so no rule accuses by the records alone:
 //!
 //! - `stream-count`, `stream-data-limit`, `data-limit`, `id-count`, `number-length`, `amplification`,
 //!   `path-amplification`, `early-done`, `early-update` and `second-update` are about that moment. They need
@@ -15,8 +15,8 @@
 //!   `retire-without-bytes` and `chosen-version` need what doesn't change: parameters, ids, addresses and versions.
 //!   Those that need parameters have `Need::PeerParameters`.
 //!
-//! In the first three groups packets that were acknowledged and aren't in the file are `Need::PeerPackets`, and those that
-//! may be missing at its end, where nothing shows it, are `Need::End`.
+//! In the first three groups packets that were acknowledged and aren't in the file are `Need::PeerPackets`, and those
+//! that may be missing at its end, where nothing shows it, are `Need::End`.
 
 mod datagrams;
 mod frames;

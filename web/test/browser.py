@@ -208,6 +208,8 @@ class WebKit(Driven):
 
     name = "WebKitGTK"
     CAN_PRETEND = False
+    # What the driver says if it lost what a script returned.
+    LOST = "Could not parse script result"
     # Keeps the texts of files when the page has them saved.
     KEEP = """window.kept = {};
         let last = null;
@@ -247,6 +249,17 @@ class WebKit(Driven):
         self.session = f"/session/{session['sessionId']}"
         self.version = session["capabilities"]["browserVersion"]
         self.unshape()
+
+    def send(self, command, body):
+        """A script whose result was lost runs again: what it did twice a later check notices."""
+        for left in reversed(range(3)):
+            try:
+                return super().send(command, body)
+            except Failed as error:
+                if command != "run" or str(error) != self.LOST or left == 0:
+                    raise
+                print("  the driver lost what a script returned: once more", flush=True)
+                time.sleep(0.5)
 
     def go(self, url):
         super().go(url)

@@ -46,6 +46,7 @@ export class CaptureList {
   }
 
   forget() {
+    clearTimeout(this.timer);
     this.pages = new Map();
     this.count = 0;
     this.at = -1;
@@ -64,9 +65,9 @@ export class CaptureList {
 
   // ---- the filter
 
-  filterSoon() {
+  filterSoon(delay = FILTER_DELAY) {
     clearTimeout(this.timer);
-    this.timer = setTimeout(() => this.apply(this.filter.value), FILTER_DELAY);
+    this.timer = setTimeout(() => this.apply(this.filter.value), delay);
   }
 
   // |filtering| is called whenever the filter is another one.

@@ -11,6 +11,8 @@ import { saveBlob, saveText } from "./picture.js";
 import { count } from "./shown.js";
 import { Timeline } from "./timeline.js";
 
+// After how many milliseconds the list is drawn again: together with the overview that takes WebKit 0.1 s.
+const AFTER_OVERVIEW = 100;
 const NO_WORKERS = "This browser has no workers, in which captures are read.";
 
 // What a browser says of an error, in a sentence of the page.
@@ -281,7 +283,7 @@ export class Captures {
     this.askCards();
     const go = (index) => this.list.goTo(index);
     showFindings(this.byId("findings"), this.byId("found-title"), summary.findings, summary.finding_count, go);
-    this.list.apply(this.list.filter.value);
+    this.list.filterSoon(AFTER_OVERVIEW);
     this.state = "ready";
   }
 

@@ -21,7 +21,7 @@ export class Timeline {
     // The browser scrolls instead.
     canvas.addEventListener("pointercancel", () => this.letGo());
     canvas.addEventListener("keydown", (event) => this.key(event));
-    new ResizeObserver(() => this.draw()).observe(canvas);
+    new ResizeObserver(() => this.fit()).observe(canvas);
     window.matchMedia("(prefers-color-scheme: dark)").addEventListener("change", () => this.draw());
   }
 
@@ -62,10 +62,21 @@ export class Timeline {
     return placeIn(this.view, this.size, time, number);
   }
 
+  // How many of the screen's pixels are as wide as one of the page's.
+  get scale() {
+    return window.devicePixelRatio || 1;
+  }
+
+  // Draws for another size. What is shown at last was drawn when it came.
+  fit() {
+    const { canvas, size, scale } = this;
+    if (canvas.width !== Math.floor(size.width * scale) || canvas.height !== Math.floor(size.height * scale)) {
+      this.draw();
+    }
+  }
+
   draw() {
-    const { canvas } = this;
-    const scale = window.devicePixelRatio || 1;
-    const [width, height] = [canvas.clientWidth, canvas.clientHeight];
+    const { canvas, scale, size: { width, height } } = this;
     if (width === 0 || !this.view) {
       return;
     }

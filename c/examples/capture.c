@@ -194,11 +194,11 @@ static void print_frame(const uint8_t *payload, size_t len, const quic_wire_fram
   case QUIC_WIRE_FRAME_PING: break;
   case QUIC_WIRE_FRAME_ACK: print_ack(payload, len, frame); break;
   case QUIC_WIRE_FRAME_CRYPTO:
-    printf(" offset %" PRIu64 " length %zu", frame->crypto.offset, frame->datalen);
+    printf(" offset %" PRIu64 " length %zu", frame->crypto.offset, (size_t)frame->datalen);
     break;
   case QUIC_WIRE_FRAME_CONNECTION_CLOSE:
     printf(" error %" PRIx64 " frame %" PRIx64 " reason %zu", frame->close.error_code,
-           frame->close.frame_type, frame->datalen);
+           frame->close.frame_type, (size_t)frame->datalen);
     break;
   default: break;
   }

@@ -30,7 +30,7 @@ static void print_frames(const uint8_t *payload, size_t len) {
   }
   while ((answer = quic_wire_frames_next(&frames, payload, len, &frame)) ==
          QUIC_WIRE_ITEM) {
-    printf("%zu..%zu ", frame.begin, frame.end);
+    printf("%zu..%zu ", (size_t)frame.begin, (size_t)frame.end);
     print_type(frame.kind);
     putchar('\n');
   }

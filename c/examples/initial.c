@@ -79,7 +79,7 @@ static void print_frames(const uint8_t *payload, size_t len) {
   while (answer >= 0 &&
          (answer = quic_wire_frames_fill(&frames, payload, len, &frame, 1,
                                          &count)) == QUIC_WIRE_ITEM)
-    printf("%zu..%zu %s\n", frame.begin, frame.end,
+    printf("%zu..%zu %s\n", (size_t)frame.begin, (size_t)frame.end,
            quic_wire_type_name(frame.type));
   check(answer == QUIC_WIRE_OK, quic_wire_strerror(answer));
 }

@@ -10,7 +10,9 @@
 #include "paths.h"
 #include "quic_wire.h"
 
-enum { CIDLEN = 4 };
+/* Of its ids, and the least of datagrams with an Initial packet (RFC 9000,
+ * section 14.1). */
+enum { CIDLEN = 4, LEAST = 1200 };
 static const uint32_t versions[] = {QUIC_WIRE_VERSION_1};
 /* The spaces of packet numbers, one of which 0-RTT and 1-RTT packets share, by
  * kind of packet. */
@@ -114,6 +116,7 @@ static void read_packet(uint8_t *packet, const quic_wire_header *header) {
 }
 
 static void read_datagram(uint8_t *bytes, size_t len) {
+  const int is_small = len < LEAST;
   quic_wire_header header;
   uint8_t answer[600];
   size_t idlen = 0, written = 0;
@@ -125,9 +128,13 @@ static void read_datagram(uint8_t *bytes, size_t len) {
                                 QUIC_WIRE_READ_RFC, &header);
     if (end < 0)
       break;
-    read_packet(bytes, &header);
+    if (header.kind == QUIC_WIRE_PACKET_INITIAL && is_small)
+      puts(" dropped: an Initial packet in a small datagram");
+    else
+      read_packet(bytes, &header);
   }
-  if (end == QUIC_WIRE_ERR_PACKET_VERSION) {
+  /* Small ones aren't answered (section 5.2.2). */
+  if (end == QUIC_WIRE_ERR_PACKET_VERSION && !is_small) {
     check(quic_wire_negotiation_write(
               0, quic_wire_scid(bytes, &header), header.scidlen,
               quic_wire_dcid(bytes, &header), header.dcidlen, versions, 1,

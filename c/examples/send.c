@@ -99,12 +99,14 @@ static size_t seal_packet(uint8_t kind, uint32_t version, uint64_t number,
   return end;
 }
 
+/* Datagrams with an Initial packet have 1,200 bytes (RFC 9000, section 14.1),
+ * also those of a version that the server may not know (section 5.2.2). */
 int main(void) {
   uint8_t datagram[1500];
   size_t n;
   add_ack();
   add_crypto(0, "hello");
-  add_padding(1100);
+  add_padding(1111);
   n = seal_packet(QUIC_WIRE_PACKET_INITIAL, QUIC_WIRE_VERSION_1, 0, 0, datagram,
                   sizeof datagram);
   add_crypto(5, "world");
@@ -116,7 +118,7 @@ int main(void) {
   n = seal_packet(QUIC_WIRE_PACKET_1RTT, 0, 70000, 60000, datagram,
                   sizeof datagram);
   print_hex("", datagram, n);
-  add_padding(20);
+  add_padding(1167);
   n = seal_packet(QUIC_WIRE_PACKET_INITIAL, 0x0a0a0a0a, 1, 0, datagram,
                   sizeof datagram);
   print_hex("", datagram, n);

@@ -7,9 +7,10 @@
  * 9369, DATAGRAM of RFC 9221, and the ACK frequency extension).  You bring the
  * ciphers.  A section without an RFC is one of RFC 9000.
  *
- * Memory: nothing allocates.  State lives in structs that you own, and you pass
- * the bytes again with each call.  What is found in them is returned as an
- * offset and a length, both in bytes.
+ * Memory: nothing allocates, except the library as C on big-endian machines.
+ * State lives in structs that you own, and you pass the bytes again with each
+ * call.  What is found in them is returned as an offset and a length, both in
+ * bytes.
  *
  * Threads: there is no global state, and there are no callbacks.  Calls on
  * different structs may run at the same time.
@@ -332,8 +333,10 @@ typedef enum quic_wire_code {
 /** Each flag except QUIC_WIRE_READ_GREASED_BIT: what RFC 9000 requires of the
  * bytes alone, if no extension was negotiated.  In which packets, from which
  * side and on which streams a frame may come, quic_wire_frame_permitted checks.
- * You check that you offered to receive DATAGRAM, and the reserved bits of a
- * packet that was opened (17.2, 17.3.1). */
+ * You check that you offered to receive DATAGRAM, the reserved bits of a packet
+ * that was opened (17.2, 17.3.1), that a server sends no token (17.2.2), that a
+ * datagram with an Initial packet has 1,200 bytes (14.1), and the ids of the
+ * handshake (7.3, 18.2); docs/DIFFERENCES.md of the repository has all. */
 #define QUIC_WIRE_READ_RFC 0x3efu
 
 /* ---- Flags of writers */
@@ -830,8 +833,8 @@ QUIC_WIRE_CHECKED extern int quic_wire_check(uint32_t header);
  * The code with which an endpoint closes the connection after |result|:
  * FRAME_ENCODING_ERROR, PROTOCOL_VIOLATION, STREAM_STATE_ERROR or
  * TRANSPORT_PARAMETER_ERROR if its peer broke a rule; INTERNAL_ERROR for the
- * caller's mistakes, -1 to -9 but QUIC_WIRE_ERR_LIBRARY; NO_ERROR, 0, for all
- * others, after which nothing is closed: results from 0 on,
+ * caller's mistakes, QUIC_WIRE_ERR_ARGUMENT to QUIC_WIRE_ERR_NOBUF; NO_ERROR,
+ * 0, for all others, after which nothing is closed: results from 0 on,
  * QUIC_WIRE_ERR_LIBRARY, and QUIC_WIRE_ERR_PACKET_..., whose packets are
  * dropped.
  */
@@ -1142,7 +1145,8 @@ quic_wire_ack_ranges_fill(quic_wire_range_iter *ranges, const uint8_t *payload,
  * |data|, an array of |datalen| bytes; in a NEW_CONNECTION_ID the token follows
  * them.  If |frame->datalen| is 0, as for each kind without data, |data| and
  * that offset are ignored, so a PING is written as it was read, with any |data|
- * or NULL.  The frame's type, begin and end are ignored.
+ * or NULL.  A PADDING is written as one byte.  The frame's type, begin and end
+ * are ignored.
  *
  * Returns:
  *  - 0, and in |*written| how many bytes were written
@@ -1528,8 +1532,9 @@ quic_wire_negotiation_write(uint8_t flags, const uint8_t *dcid, size_t dcidlen,
  * Sets the Length field of a packet of |packetlen| bytes whose number begins at
  * |place| to the count of bytes from there on.  The field has |lengthlen|
  * bytes, as in the header.  Returns 0; QUIC_WIRE_ERR_LENGTH if |lengthlen|
- * isn't 1, 2, 4 or 8, doesn't fit before |place|, or can't hold the length;
- * QUIC_WIRE_ERR_ARGUMENT for NULL.  Nothing changes after an error.
+ * isn't 1, 2, 4 or 8, doesn't fit before |place|, or can't hold the length, or
+ * if |place| is above |packetlen|; QUIC_WIRE_ERR_ARGUMENT for NULL.  Nothing
+ * changes after an error.
  */
 QUIC_WIRE_CHECKED QUIC_WIRE_API int quic_wire_set_len(uint8_t *packet,
                                                       size_t packetlen,
@@ -1573,7 +1578,9 @@ quic_wire_header_write_fault(const quic_wire_header_fields *fields,
  *  - 0, and the parameters
  *  - QUIC_WIRE_ERR_PARAMS_MALFORMED or QUIC_WIRE_ERR_PARAMS_ILLEGAL if the list
  *    is a TRANSPORT_PARAMETER_ERROR, and in |refusal|, which may be NULL, the
- *    first entry that is rejected: its id, and where it begins
+ *    entry that is rejected: its id, and where it begins.  It is the first one
+ *    that is malformed; if none is, one of those that break a rule, not always
+ *    the first
  *  - QUIC_WIRE_ERR_KIND if |side| is neither
  *  - QUIC_WIRE_ERR_ARGUMENT for NULL
  *

@@ -4,7 +4,8 @@
 //! length, or a Retry's token or tag.
 //!
 //! Fields have indices. Index 0 of a frame is its type, and then come FIN or the direction of streams, which the type
-//! says, and the fields in the order of RFC 9000, section 19. The repository's docs/formats.json has their names.
+//! says, and the fields in the order of RFC 9000, section 19. Index 3 of a NEW_CONNECTION_ID is a rule and has no bytes:
+//! Retire Prior To is at most the sequence number. The repository's docs/formats.json has their names.
 //!
 //! ```
 //! use quic_wire::fields;

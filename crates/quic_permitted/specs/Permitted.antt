@@ -46,9 +46,8 @@ abbrev pub on_a_stream : Packets → Part → Permission
 on_a_stream packets part = record { packets = packets; only_servers = false; part = part }
 
 -- One row for each frame. Those of RFC 9000 are as table 3 has them, which permits RETIRE_CONNECTION_ID in 0-RTT
--- packets; section 12.5 says that a server may reject that. DATAGRAM is RFC 9221's (section 5). The draft of the ACK
--- frequency extension doesn't say in which packets its frames may be: here, as in quinn-proto, in 0-RTT and 1-RTT
--- packets.
+-- packets; section 12.5 says that a server may reject that. DATAGRAM is RFC 9221's (section 5). Those of the
+-- ACK frequency extension, whose draft wasn't at hand, may be in 0-RTT and 1-RTT packets, as in quinn-proto.
 abbrev pub permission_of : Name → Permission
 permission_of Padding = in_packets IH01
 permission_of Ping = in_packets IH01

@@ -5,6 +5,8 @@ use std::io::{self, BufRead};
 use std::mem;
 
 const UTF_16: &str = "the text is UTF-16, not UTF-8";
+const CAPTURE: &str = "a capture, not hexadecimal; use the mode capture or check";
+const GZIP: &str = "gzip compressed this; only the modes capture and check read it";
 const OPEN: &str = "a bracket is not closed";
 
 /// A piece that is read as one, and the number of its first line.
@@ -51,6 +53,19 @@ pub struct Pieces<R> {
     is_ended: bool,
 }
 
+// Why what begins with such a line is no text, if it isn't.
+fn not_text(line: usize, text: &[u8]) -> Option<&'static str> {
+    match (line, text) {
+        (1, [0xff, 0xfe, ..] | [0xfe, 0xff, ..]) => Some(UTF_16),
+        (1, [0x1f, 0x8b, 0x08, ..]) => Some(GZIP),
+        (1, [0xd4, 0xc3, 0xb2, 0xa1, ..] | [0xa1, 0xb2, 0xc3, 0xd4, ..]) => Some(CAPTURE),
+        (1, [0x4d, 0x3c, 0xb2, 0xa1, ..] | [0xa1, 0xb2, 0x3c, 0x4d, ..]) => Some(CAPTURE),
+        // A pcapng file begins with two ends of lines and a length.
+        (3, [_, _, _, _, 0x4d, 0x3c, 0x2b, 0x1a, ..] | [_, _, _, _, 0x1a, 0x2b, 0x3c, 0x4d, ..]) => Some(CAPTURE),
+        _ => None,
+    }
+}
+
 impl<R: BufRead> Pieces<R> {
     pub fn new(source: R, plain: Plain) -> Self {
         let (dump, list, next, is_ended) = (None, None, None, false);
@@ -90,9 +105,9 @@ impl<R: BufRead> Pieces<R> {
         if self.line == 1 && text.starts_with(b"\xef\xbb\xbf") {
             text.drain(..3);
         }
-        if self.line == 1 && (text.starts_with(b"\xff\xfe") || text.starts_with(b"\xfe\xff")) {
+        if let Some(why) = not_text(self.line, &text) {
             self.is_ended = true;
-            return Some(Piece { line: 1, bytes: Err(UTF_16.into()) });
+            return Some(Piece { line: self.line, bytes: Err(why.into()) });
         }
         if let Some(list) = self.list.take() {
             return self.go_on(list, text);

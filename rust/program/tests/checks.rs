@@ -137,6 +137,20 @@ fn why_packets_are_not_opened() {
     }
 }
 
+// With the link type of 802.11, which isn't read, no record has a datagram.
+#[test]
+fn records_without_a_datagram_are_counted() {
+    let folder = Folder::new("check-links");
+    let (file, _) = files(&folder);
+    let mut bytes = fs::read(&file).unwrap();
+    bytes[20] = 105;
+    let other = folder.write("other", bytes);
+    let (text, _, status) = run(&["check", &other], b"");
+    assert_eq!(text.lines().next(), Some(&format!("{other}: 6 records without a UDP datagram")[..]), "{text}");
+    assert_eq!(status, 0);
+    assert!(notes(&sarif(&[&other])).contains(&"6 records without a UDP datagram"));
+}
+
 // Without a key log 2 of 16 packets are opened, 12.5 %.
 #[test]
 fn a_share_of_the_packets_must_be_opened() {

@@ -229,6 +229,9 @@ impl Form for Sarif<'_> {
             found.note(Some(rule), "note", &what);
         }
         whole.unopened().for_each(|(why, number)| found.note(None, "note", &words::unopened(why, number)));
+        if whole.capture.others() > 0 {
+            found.note(None, "note", &count(whole.capture.others(), "record", "without a UDP datagram"));
+        }
         if whole.skipped_lines > 0 {
             found.note(None, "warning", &count(whole.skipped_lines, "line", "of key logs skipped"));
         }

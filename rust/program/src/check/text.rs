@@ -46,6 +46,9 @@ impl<'s> Text<'s> {
     // What no rule saw, and why.
     fn lacks(&self, whole: &Whole<'_>) -> Vec<String> {
         let mut lacks: Vec<_> = whole.unopened().map(|(why, number)| words::unopened(why, number)).collect();
+        if whole.capture.others() > 0 {
+            lacks.push(count(whole.capture.others(), "record", "without a UDP datagram"));
+        }
         if whole.skipped_lines > 0 {
             lacks.push(count(whole.skipped_lines, "line", "of key logs skipped"));
         }

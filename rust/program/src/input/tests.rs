@@ -67,6 +67,21 @@ fn lines_may_end_in_both_ways_and_the_last_in_none() {
     }
 }
 
+// The fronts of files as tcpdump, Wireshark and gzip write them.
+#[test]
+fn captures_are_named() {
+    let pcap = [[0xd4, 0xc3, 0xb2, 0xa1], [0xa1, 0xb2, 0xc3, 0xd4], [0x4d, 0x3c, 0xb2, 0xa1], [0xa1, 0xb2, 0x3c, 0x4d]];
+    for front in pcap {
+        let file = [&front[..], b"\x02\0\x04\0\n01\n"].concat();
+        assert_eq!(pieces(&file), [Piece { line: 1, bytes: Err(CAPTURE.into()) }]);
+    }
+    for length in [&b"\x1c\0\0\0\x4d\x3c\x2b\x1a"[..], b"\0\0\0\x1c\x1a\x2b\x3c\x4d"] {
+        let file = [&b"\n\r\r\n"[..], length, b"\x01\0\n01\n"].concat();
+        assert_eq!(pieces(&file).last(), Some(&Piece { line: 3, bytes: Err(CAPTURE.into()) }));
+    }
+    assert_eq!(pieces(b"\x1f\x8b\x08\0\n01\n"), [Piece { line: 1, bytes: Err(GZIP.into()) }]);
+}
+
 // Time that grows with the square of the text is hours here.
 #[test]
 fn the_time_grows_with_the_text() {

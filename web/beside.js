@@ -1,6 +1,6 @@
 // What is shown beside the bytes: their shortest form, or another input. Both grids mark what differs.
 
-import { Comparison } from "./compare.js";
+import { comparisonOf } from "./compare.js";
 import { Grid } from "./grid.js";
 import { inspect } from "./inspector.js";
 import { spotIn } from "./views.js";
@@ -19,13 +19,12 @@ export class Beside {
     });
   }
 
-  // Shows a reading. If |isPaired|, its items correspond to those of the other reading by index.
-  show(reading, columns, isPaired) {
-    this.reading = reading;
-    this.isPaired = isPaired;
-    this.comparison = new Comparison(this.views.reading, reading, isPaired);
-    this.grid.show(reading, columns, this.comparison.rightDiffers);
-    this.views.grid.compare(this.comparison.leftDiffers);
+  // Shows a reading, with pauses. If |isPaired|, its items correspond to those of the other reading by index.
+  * show(reading, columns, isPaired) {
+    const comparison = yield* comparisonOf(this.views.reading, reading, isPaired);
+    Object.assign(this, { reading, isPaired, comparison });
+    this.grid.show(reading, columns, comparison.rightDiffers);
+    this.views.grid.compare(comparison.leftDiffers);
   }
 
   clear() {

@@ -1,6 +1,8 @@
 // Compares the bytes of two readings. If few enough bytes differ, the least number of them is found. Otherwise equal
 // items are found first, so that a change in one of them doesn't affect the others, and then bytes between these.
 
+import { ITEMS_AT_ONCE } from "./slices.js";
+
 // If one run has more changes, they aren't searched for: all of its bytes count as changed.
 const MOST_CHANGES = 400;
 const MIDDLE = MOST_CHANGES + 1;
@@ -65,9 +67,16 @@ function onesIn(marks) {
   return sum;
 }
 
-export class Comparison {
-  // If |isPaired|, each item is compared with the one of the same index, as in a shortest form.
-  constructor(left, right, isPaired) {
+// Compares two readings, with pauses. If |isPaired|, each item is compared with the one of the same index, as in a
+// shortest form.
+export function* comparisonOf(left, right, isPaired) {
+  const comparison = new Comparison(left, right);
+  yield* isPaired && left.count === right.count ? comparison.comparePairs() : comparison.compareAll();
+  return comparison;
+}
+
+class Comparison {
+  constructor(left, right) {
     this.left = left;
     this.right = right;
     // For each byte whether it differs, and for the left ones their offset on the right.
@@ -76,16 +85,29 @@ export class Comparison {
     this.places = new Int32Array(left.bytes.length).fill(-1);
     // Whether a search was given up, so that some bytes count as changed that may be equal.
     this.isRough = false;
-    if (isPaired && left.count === right.count) {
-      for (let item = 0; item < left.count; item += 1) {
-        this.compareBytes(left.begin(item), left.end(item), right.begin(item), right.end(item));
+  }
+
+  * comparePairs() {
+    const { left, right } = this;
+    for (let item = 0; item < left.count; item += 1) {
+      this.compareBytes(left.begin(item), left.end(item), right.begin(item), right.end(item));
+      if (item % ITEMS_AT_ONCE === ITEMS_AT_ONCE - 1) {
+        yield;
       }
-    } else if (!this.compareBytes(0, left.bytes.length, 0, right.bytes.length)) {
+    }
+  }
+
+  * compareAll() {
+    if (!this.compareBytes(0, this.left.bytes.length, 0, this.right.bytes.length)) {
+      yield;
       this.isRough = false;
       this.compareItems();
     }
-    this.count = onesIn(this.leftDiffers);
-    this.rightCount = onesIn(this.rightDiffers);
+  }
+
+  // How many bytes differ, of those on the left and on the right.
+  get counts() {
+    return [onesIn(this.leftDiffers), onesIn(this.rightDiffers)];
   }
 
   // Finds items that are equal on both sides, and compares the bytes in the gaps between them.

@@ -20,7 +20,7 @@ import { pictureOf, saveText } from "./picture.js";
 import { printInto } from "./printed.js";
 import { readBytes } from "./reading.js";
 import { inTasks, untilFailure } from "./slices.js";
-import { plainButton, showFailure, showReading, showStatus, summaryOf } from "./status.js";
+import { plainButton, revealViews, showFailure, showReading, showStatus, summaryOf } from "./status.js";
 import { Views } from "./views.js";
 import { count } from "./shown.js";
 
@@ -299,6 +299,7 @@ export class Page {
       byId("items-title").textContent = { frame: "Frames", packet: "Packets", parameter: "Parameters" }[reading.unit];
       this.views.show(reading, columns());
     }
+    revealViews();
     yield;
     yield* this.showBeside();
     yield;
@@ -346,8 +347,8 @@ export class Page {
     }
     const reading = readBytes(this.besideLibrary, bytes, this.chosen);
     yield;
-    this.other.show(reading, columns(), false);
-    const { count: here, rightCount: there, isRough } = this.other.comparison;
+    yield* this.other.show(reading, columns(), false);
+    const { counts: [here, there], isRough } = this.other.comparison;
     const differ = `${count(here, "byte")} of the first and ${there} of this one`;
     byId("other-note").textContent = `${summaryOf(reading).text}. ${here + there === 0 ? "The same bytes."
       : isRough ? `Too many changes to find each: ${differ} are in parts that differ.` : `${differ} differ.`}`;
@@ -355,11 +356,10 @@ export class Page {
 
   *showShortest() {
     const { reading } = this;
-    const section = byId("shortest");
     const canonical = reading?.unit === "frame" ? reading.canonical() : { bytes: null };
     yield;
-    section.hidden = canonical.bytes === null;
-    if (section.hidden) {
+    byId("shortest").hidden = canonical.bytes === null;
+    if (canonical.bytes === null) {
       return;
     }
     const fewer = reading.bytes.length - canonical.bytes.length;
@@ -373,7 +373,7 @@ export class Page {
     byId("shortest-note").replaceChildren(size, copy);
     const shortest = readBytes(this.besideLibrary, canonical.bytes, { ...this.chosen, mode: "frames" });
     yield;
-    this.shortest.show(shortest, columns(), true);
+    yield* this.shortest.show(shortest, columns(), true);
   }
 
   // What quic-show prints, if that panel is open.

@@ -3,7 +3,7 @@
 
 // How many characters are read between two pauses, with a few more.
 export const AT_ONCE = 1 << 15;
-const ITEMS_AT_ONCE = 1 << 12;
+export const ITEMS_AT_ONCE = 1 << 12;
 // For how many milliseconds a task takes steps; it then finishes the last one.
 const TASK_TIME = 10;
 

@@ -37,6 +37,15 @@ export function showReading(box, characters) {
   box.replaceChildren(`Reading ${characters} characters …`);
 }
 
+// Shows the views that are hidden while a long text is read, before what comes beside them: both at once would take a
+// tenth of a second.
+export function revealViews() {
+  const { dataset } = document.documentElement;
+  if (dataset.state === "reading") {
+    dataset.state = "showing";
+  }
+}
+
 // Says that the page itself has failed. If the module has stopped, it fails from then on.
 export function showFailure(box, error) {
   console.error(error);

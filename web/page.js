@@ -19,7 +19,7 @@ import { linesOf } from "./outline.js";
 import { pictureOf, saveText } from "./picture.js";
 import { printInto } from "./printed.js";
 import { readBytes } from "./reading.js";
-import { inTasks, untilFailure } from "./slices.js";
+import { DRAWN, inTasks, untilFailure } from "./slices.js";
 import { plainButton, revealViews, showFailure, showReading, showStatus, summaryOf } from "./status.js";
 import { Views } from "./views.js";
 import { count } from "./shown.js";
@@ -300,7 +300,7 @@ export class Page {
       this.views.show(reading, columns());
     }
     revealViews();
-    yield;
+    yield DRAWN;
     yield* this.showBeside();
     yield;
     this.opened.show(reading?.unit === "packet" ? reading : null, columns(), this.form.opened);

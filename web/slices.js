@@ -1,11 +1,12 @@
 // Reads long texts and bytes in parts, between which it may pause. A function "with pauses" is a generator that yields
-// nothing and returns its result.
+// nothing, or DRAWN so that the browser draws first, and returns its result.
 
 // How many characters are read between two pauses, with a few more.
 export const AT_ONCE = 1 << 15;
 export const ITEMS_AT_ONCE = 1 << 12;
 // For how many milliseconds a task takes steps; it then finishes the last one.
 const TASK_TIME = 10;
+export const DRAWN = "drawn";
 
 // Counts what was read since the last pause.
 export class Pace {
@@ -44,14 +45,20 @@ export function* untilFailure(steps, failed) {
 // it calls |end|.
 export function inTasks(steps, isWanted, end) {
   const until = performance.now() + TASK_TIME;
+  const next = () => inTasks(steps, isWanted, end);
   while (isWanted() && performance.now() < until) {
-    if (steps.next().done) {
+    const { done, value } = steps.next();
+    if (done) {
       end();
+      return;
+    }
+    if (value === DRAWN) {
+      requestAnimationFrame(() => setTimeout(next));
       return;
     }
   }
   if (isWanted()) {
-    setTimeout(() => inTasks(steps, isWanted, end));
+    setTimeout(next);
   }
 }
 

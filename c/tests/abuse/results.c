@@ -54,6 +54,9 @@ void results_examples(void) {
   WANT(quic_wire_check(QUIC_WIRE_LIB + 0x10000) == QUIC_WIRE_ERR_LIBRARY);
   WANT(quic_wire_lib() == QUIC_WIRE_LIB);
   WANT(strcmp(quic_wire_lib_text(), QUIC_WIRE_LIB_TEXT) == 0);
+  /* Numbers that are no results. */
+  WANT(quic_wire_close_code(-4) == QUIC_WIRE_CODE_NO_ERROR);
+  WANT(quic_wire_close_code(-15) == QUIC_WIRE_CODE_NO_ERROR);
 }
 
 /* No number is beyond the texts and the codes; only errors close a connection.

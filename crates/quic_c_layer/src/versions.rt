@@ -42,12 +42,13 @@ pub extern "C" fn quic_wire_version_information_read_(value: &[u8]) -> u32
 }
 
 /// The first of these versions; the others are in the bytes after the first four. It returns 0 exactly if there is
-/// none.
+/// none, and always for fewer than four bytes.
 #[unsafe(no_mangle)]
 pub extern "C" fn quic_wire_version_split_(versions: &[u8]) -> u32
     ensures some { (list : List ℕ) → AreVersions list versions.now → 0 < result
         → (others : List ℕ) × (list ≡ result ∷ others) × AreVersions others (drop 4 versions.now) }
     ensures none { (list : List ℕ) → AreVersions list versions.now → result ≡ 0 → list ≡ [] }
+    ensures whole { 0 < result → 4 ≤ length versions.now }
 {
     match split(versions) {
         Some((version, _others)) => version,

@@ -18,7 +18,8 @@ fn make_at_front(runs: &mut [CRange], set: &mut CRuns, change: Splice)
     requires fits { FitsRoom (entries_at runs.old set.old) change }
     requires first { change.from ≡ 0 }
     requires room { length (words_of change.by) ≤ set.old.first + change.to }
-    ensures { MadeAt runs.old set.old change runs.new set.new }
+    ensures made { MadeAt runs.old set.old change runs.new set.new }
+    ensures end { set.new.first + set.new.count ≡ set.old.first + set.old.count }
 {
     let len = change.by.len();
     let first = set.first + change.to - len;
@@ -76,6 +77,8 @@ pub(crate) fn make_at(runs: &mut [CRange], set: &mut CRuns, change: Splice) -> b
         → length (after_change (entries_at runs.old set.old) change) ≡ set.old.count + 1 }
     ensures same { result ≡ false → runs.new ≡ runs.old }
     ensures named { result ≡ false → set.new ≡ set.old }
+    ensures end { change.from ≡ 0 → change.to < set.old.count → length (words_of change.by) ≤ set.old.first + change.to
+        → set.new.first + set.new.count ≡ set.old.first + set.old.count }
 {
     if change.from == 0 && change.to < set.count && change.by.len() <= set.first + change.to {
         make_at_front(runs, set, change);

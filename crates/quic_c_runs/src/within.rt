@@ -1,5 +1,5 @@
 //! The part of a set that is in a range.
-ghost use Rattle.std.specs.Prelude.{◌≡◌, ◌<◌, ◌+◌, ◌⊎◌, ◌↔◌, ℕ, List, length, drop, pos};
+ghost use Rattle.std.specs.Prelude.{◌≡◌, ◌<◌, ◌≤◌, ◌+◌, ◌⊎◌, ◌↔◌, ℕ, List, length, drop, pos};
 ghost use Rattle.std.specs.declared.ops.Range.{Range};
 ghost use Rattle.quic_ranges.specs.Runs.{IsRunsOf, in_intersection};
 ghost use Rattle.quic_c_entries.specs.Entries.{Stores, span};
@@ -18,7 +18,8 @@ use quic_results::results::Failure;
 /// The set doesn't change: `quic_wire_runs_remove_` removes them. It returns 0, with the number of runs in `stored`, and
 /// the entries after them don't change; `NoRoom` exactly when `dest` has fewer entries than there are runs, with their
 /// number in `stored`; `Ranges` exactly when `set` names entries that aren't in the array. `dest` changes only with 0,
-/// and `stored` doesn't change with `Ranges`. If the entries aren't the runs of a set, what is stored means nothing.
+/// and `stored` doesn't change with `Ranges`. If the entries aren't the runs of a set, what is stored means nothing, but
+/// `stored` is at most the length of `dest` with 0.
 ///
 /// It takes two binary searches, and two steps for each run in the range.
 #[unsafe(no_mangle)]
@@ -38,6 +39,7 @@ pub extern "C" fn quic_wire_runs_within_(
         × IsRunsOf (in_intersection (runs_at runs.now set.now) (span start end)) parts
         × (stored.new ≡ length parts) × (length dest.old < length parts) }
     ensures others { result ≡ pos 0 → drop stored.new dest.new ≡ drop stored.new dest.old }
+    ensures within { result ≡ pos 0 → stored.new ≤ length dest.new }
     ensures invalid { (result ≡ failed Failure.Ranges) ↔ (length runs.now < set.now.first + set.now.count) }
     ensures same { (result ≡ pos 0) ⊎ (dest.new ≡ dest.old) }
     ensures kept { result ≡ failed Failure.Ranges → stored.new ≡ stored.old }

@@ -32,12 +32,14 @@ fn are_versions(bytes: &[u8]) -> bool
     left.is_empty()
 }
 
-/// The first of these versions, and the others. `None` exactly if there is none. They are what `read` returned, or what
-/// this function did.
+/// The first of these versions, and the others: the bytes after the first four. `None` exactly if there is none; of
+/// bytes that are no versions, if there are fewer than four. They are what `read` returned, or what this function did.
 pub fn split(versions: &[u8]) -> Option<(u32, &[u8])> { #![doc = "# Contract\n```text"]
     //! ensures some { (list : List ℕ) → AreVersions list versions.now
     //!     → IfSome result (λ x. (others : List ℕ) × (list ≡ x.0 ∷ others) × AreVersions others x.1.now) }
     //! ensures none { (list : List ℕ) → AreVersions list versions.now → IsNone result → list ≡ [] }
+    //! ensures whole { IfSome result (λ x. (4 ≤ length versions.now) × (x.1.now ≡ drop 4 versions.now)) }
+    //! ensures short { IsNone result → length versions.now < 4 }
     //! ```
     word(versions)
 }

@@ -921,7 +921,10 @@ quic_wire_frames_first(quic_wire_frame_iter *frames, const uint8_t *payload,
  * Passes over a frame that you read, of a type that the library doesn't know:
  * quic_wire_frames_next and quic_wire_frames_fill, which returned
  * QUIC_WIRE_ERR_FRAME_TYPE there, go on at |end|, an offset in the payload.
- * The frame begins at |frames->offset|, with its |type|.
+ * The frame begins at |frames->offset|, with its |type|.  If the bytes end
+ * within the type behind it, quic_wire_error_type returns |type|, and the error
+ * is QUIC_WIRE_ERR_FRAME_TYPE if QUIC_WIRE_READ_NO_ACK_FREQUENCY leaves |type|
+ * out, else QUIC_WIRE_ERR_FRAME_END.
  *
  * Returns:
  *  - QUIC_WIRE_ITEM

@@ -11,6 +11,14 @@ void skip_nulls(void) {
   WANT(frames.offset == 0 && frames.ended == 1);
 }
 
+/* Whether a type is of the ACK frequency extension, which the flags leave out.
+ * So is, behind such a frame, a type that is cut off. */
+static int is_left_out(uint64_t type, uint32_t flags) {
+  return (flags & QUIC_WIRE_READ_NO_ACK_FREQUENCY) &&
+         (type == QUIC_WIRE_FRAME_IMMEDIATE_ACK ||
+          type == QUIC_WIRE_FRAME_ACK_FREQUENCY);
+}
+
 /* Passes over any bytes, from an iterator with any field values: the next frame
  * is the one that the bytes behind begin with. */
 void skip_rubbish(const uint8_t *payload, size_t len) {
@@ -18,7 +26,7 @@ void skip_rubbish(const uint8_t *payload, size_t len) {
   quic_wire_frame frame, other;
   const uint64_t type = any() % 2 ? edge() : 0x24;
   const size_t end = place();
-  int answer;
+  int answer, behind;
   any_bytes((uint8_t *)&frames, sizeof frames);
   if (any() % 4)
     frames.offset = place();
@@ -40,8 +48,11 @@ void skip_rubbish(const uint8_t *payload, size_t len) {
     WANT(answer == 0);
     return;
   }
-  WANT(quic_wire_frames_next(&others, payload + end, len - end, &other) ==
-       answer);
+  behind = quic_wire_frames_next(&others, payload + end, len - end, &other);
+  if (is_left_out(type, before.flags) && behind == QUIC_WIRE_ERR_FRAME_END &&
+      quic_wire_error_type(&other) == QUIC_WIRE_NO_TYPE)
+    behind = QUIC_WIRE_ERR_FRAME_TYPE;
+  WANT(behind == answer);
   if (answer == QUIC_WIRE_ITEM) {
     WANT(frame.type == other.type && frame.begin == end + other.begin);
     WANT(frame.end == end + other.end && frame.datalen == other.datalen);
